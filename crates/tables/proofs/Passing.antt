@@ -1,0 +1,67 @@
+-- Checks that all pass, and the lowest number that passes a test, as a loop that goes up finds it.
+use Prim.Native.Nat.{ℕ, zero, suc, _+_, _<_, _≤_}
+use mathlib.Core.Path.{_≡_, refl, sym, ap, ap₂, _∙_}
+use mathlib.Core.Bool.{Bool, true, false}
+use mathlib.Core.List.{List, [], _∷_}
+use mathlib.Core.Logic.{_⊎_, inl, inr}
+use native.Mathlib.Omega.{arith}
+use native.Mathlib.Numerals.{add-one}
+use Rattle.std.specs.Options.{mapped}
+use Rattle.std.specs.shelf.Lists.{All}
+use Rattle.std.specs.declared.option.Option.{Option}
+use Rattle.std.specs.declared.option.Option.the-variants.{Some, None}
+use Rattle.std.proofs.shelf.Tests.{cases-eq}
+use Rattle.tables.specs.Checks.{orElse, when, first, lowest}
+
+-- checks that do not refuse, one by one
+pub orElse-none : {F : Type 0} (check later : Option F) → orElse check later ≡ None → (check ≡ None) × (later ≡ None)
+orElse-none (Some r) later e = absurd (let z : _≡_ {A = ℕ} 0 1 = cc in let y : ⊥ = omega arith in y)
+orElse-none None later e = (refl, e)
+
+pub all-pass : {F : Type 0} (checks : List (Option F)) → first checks ≡ None → All (λ check. check ≡ None) checks
+all-pass [] e = tt
+all-pass (check ∷ checks) e = (orElse-none check (first checks) e .0, all-pass checks (orElse-none check (first checks) e .1))
+
+pub first-none : {F : Type 0} (checks : List (Option F)) → All (λ check. check ≡ None) checks → first checks ≡ None
+first-none [] h = refl
+first-none (check ∷ checks) h = ap (λ o. orElse o (first checks)) (h .0) ∙ first-none checks (h .1)
+
+pub when-none : {F : Type 0} (b : Bool) (r : F) → when b r ≡ None → b ≡ false
+when-none true r e = absurd (let z : _≡_ {A = ℕ} 0 1 = cc in let y : ⊥ = omega arith in y)
+when-none false r e = refl
+
+pub mapped-none : {X F : Type 0} (f : X → F) (o : Option X) → mapped f o ≡ None → o ≡ None
+mapped-none f (Some x) e = absurd (let z : _≡_ {A = ℕ} 0 1 = cc in let y : ⊥ = omega arith in y)
+mapped-none f None e = refl
+
+module _ (p : ℕ → Bool) where
+  -- one number more
+  pub lowest-suc : (m : ℕ) (o : Option ℕ) (b : Bool) → lowest m p ≡ o → p m ≡ b → lowest (suc m) p ≡ orElse o (when b m)
+  lowest-suc m o b e h = ap₂ (λ x y. orElse x (when y m)) e h
+
+  -- a turn that does not stop
+  pub lowest-more : (m : ℕ) → lowest m p ≡ None → p m ≡ false → lowest (m + 1) p ≡ None
+  lowest-more m e h = rw add-one (lowest-suc m None false e h)
+
+  -- none is found where none passes
+  pub lowest-none : (m : ℕ) → ((k : ℕ) → k < m → p k ≡ false) → lowest m p ≡ None
+  lowest-none zero h = refl
+  lowest-none (suc m) h = lowest-suc m None false (lowest-none m (λ k l. h k (omega arith))) (h m (omega arith))
+
+  -- the turn that stops has found the lowest
+  pub lowest-at : (m i : ℕ) → lowest i p ≡ None → p i ≡ true → i < m → lowest m p ≡ Some i
+  lowest-at zero i e h l = absurd (let z : ⊥ = omega arith in z)
+  lowest-at (suc m) i e h l = at (cases-eq i m) (lowest-at m i e h)
+    where
+      at : (i ≡ m) ⊎ (i ≡ m → ⊥) → (i < m → lowest m p ≡ Some i) → lowest (suc m) p ≡ Some i
+      at (inl s) below = lowest-suc m None true (rw s at e) (rw s at h) ∙ ap Some (sym s)
+      at (inr s) below = lowest-suc m (Some i) (p m) (below (omega arith)) refl
+
+  -- where none is found, none passes
+  pub none-below : (m : ℕ) → lowest m p ≡ None → (k : ℕ) → k < m → p k ≡ false
+  none-below zero e k l = absurd (let z : ⊥ = omega arith in z)
+  none-below (suc m) e k l = at (cases-eq k m) (orElse-none (lowest m p) (when (p m) m) e) (λ h. none-below m h k)
+    where
+      at : (k ≡ m) ⊎ (k ≡ m → ⊥) → (lowest m p ≡ None) × (when (p m) m ≡ None) → (lowest m p ≡ None → k < m → p k ≡ false) → p k ≡ false
+      at (inl s) h below = ap p s ∙ when-none (p m) m (h .1)
+      at (inr s) h below = below (h .0) (omega arith)
