@@ -13,7 +13,8 @@ use Rattle.questions.specs.declared.reader.Entry.{Entry}
 use Rattle.questions.specs.Layouts.{variablesOf, formOf, entryLength}
 use Rattle.questions.specs.Entries.{refusal, readingFrom, Accepted, Refused}
 
-abbrev entryBy : ℕ → Form → ℕ → Entry
+-- an entry by its three parts
+abbrev pub entryBy : ℕ → Form → ℕ → Entry
 entryBy n form next = record { variables = n; form = form; next = next }
 
 -- the entry that the first byte says

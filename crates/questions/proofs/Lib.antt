@@ -1,3 +1,7 @@
 pub mod Rows
 pub mod Answering
 pub mod Meaning
+pub mod Packing
+pub mod Heading
+pub mod Returning
+pub mod Accepting

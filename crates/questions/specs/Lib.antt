@@ -1,3 +1,4 @@
 pub mod Faults
 pub mod Layouts
 pub mod Entries
+pub mod Writing

@@ -4,3 +4,10 @@ pub enum Form {
     TwoRows,
     OneRow,
 }
+
+// Which of an entry's two rows.
+#[derive(Clone, Copy)]
+pub enum Side {
+    Lower,
+    Upper,
+}

@@ -3,6 +3,7 @@ mod fault;
 mod form;
 mod layout;
 mod reader;
+mod writer;
 
 pub use fault::EntryFault;
 pub use fault::EntryFaultRefusal;
@@ -11,3 +12,4 @@ pub use fault::WriteFaultRefusal;
 pub use form::Form;
 pub use reader::Entry;
 pub use reader::read_entry;
+pub use writer::write_entry;

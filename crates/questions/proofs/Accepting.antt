@@ -1,0 +1,67 @@
+-- What the writer's checks say of a table that passes them, and of the entry that is then written.
+use Prim.Native.Nat.{ℕ, _+_, _^_, _<_, _≤_}
+use mathlib.Core.Path.{_≡_, refl, sym, ap, ap₂, subst, _∙_}
+use mathlib.Core.Bool.{Bool, true, false, cond, not}
+use mathlib.Core.List.{List, _∷_, _++_}
+use native.Mathlib.Omega.{arith}
+use lib.Dec.{ltb, leb}
+use lib.ListN.{length, getD, take, drop}
+use Rattle.std.specs.Options.{isSome}
+use Rattle.std.specs.declared.option.Option.{Option}
+use Rattle.std.specs.declared.option.Option.the-variants.{Some, None}
+use Rattle.std.specs.declared.result.Result.the-variants.{Ok, Err}
+use Rattle.std.proofs.shelf.Lists.{take-at, length-append}
+use Rattle.std.proofs.shelf.Tests.{not-false, and-parts, or-parts, leb-true, ltb-false, eqb-false}
+use native.Mathlib.Numerals.{one-add}
+use Rattle.tables.specs.Checks.{first, lowest, when, answered}
+use Rattle.tables.specs.Tables.{lawfulSize}
+use Rattle.tables.proofs.Passing.{all-pass, when-none, mapped-none, none-below}
+use Rattle.questions.specs.declared.fault.WriteFault.{WriteFault}
+use Rattle.questions.specs.declared.fault.WriteFault.the-variants.{Variables, TooShort, Code}
+use Rattle.questions.specs.declared.form.Form.{Form}
+use Rattle.questions.specs.declared.form.Form.the-variants.{TwoRows, OneRow}
+use Rattle.questions.specs.declared.layout.Layout.{Layout}
+use Rattle.questions.specs.Layouts.{entryLength}
+use Rattle.questions.specs.Writing.{freeAt, wrongAt, formFor, entryIn, rowsIn, entryBytes, writeChecks, writing, ReadsBack, Writable, Unwritable}
+use Rattle.questions.proofs.Returning.{entry-returns, rows-length}
+
+-- the one-row form is chosen only where nothing is free
+one-row-none : (o : Option ℕ) → cond (isSome o) TwoRows OneRow ≡ OneRow → o ≡ None
+one-row-none (Some i) e = absurd (let z : _≡_ {A = ℕ} 0 1 = cc in let y : ⊥ = omega arith in y)
+one-row-none None e = refl
+
+pub nothing-free : (n : ℕ) (codes : List ℕ) → formFor n codes ≡ OneRow → (i : ℕ) → i < 2 ^ n → getD codes i 0 ≡ 2 → ⊥
+nothing-free n codes e i l =
+    eqb-false (getD codes i 0) 2 (none-below (freeAt codes) (2 ^ n) (one-row-none (lowest (2 ^ n) (freeAt codes)) e) i l)
+
+-- a number of variables that passes lies from 1 to 10
+pub lawful-bounds : (n : ℕ) → lawfulSize n ≡ true → (1 ≤ n) × (n ≤ 10)
+lawful-bounds n e = let p = and-parts (leb 1 n) (leb n 10) e in (leb-true 1 n (p .0), leb-true n 10 (p .1))
+
+-- the entry of a table that passes the checks is read back as that table
+pub passed-returns : (n : ℕ) (codes : List ℕ) (room : ℕ) → first (writeChecks n codes room) ≡ None → ReadsBack n codes (entryBytes n codes)
+passed-returns n codes room e =
+    let passed = all-pass (writeChecks n codes room) e in
+    let bounds = lawful-bounds n (not-false (lawfulSize n) (when-none (not (lawfulSize n)) Variables (passed .0))) in
+    let long = ltb-false (length codes) (2 ^ n) (or-parts _ _ (when-none _ TooShort (passed .1 .0)) .0) in
+    let right = none-below (wrongAt codes) (2 ^ n) (mapped-none Code (lowest (2 ^ n) (wrongAt codes)) (passed .1 .1 .0)) in
+    entry-returns n (formFor n codes) codes (bounds .0) (bounds .1) long (λ i l. ltb-false 2 (getD codes i 0) (right i l)) (nothing-free n codes)
+
+pub entry-length : (n : ℕ) (codes : List ℕ) → length (entryBytes n codes) ≡ entryLength n (formFor n codes)
+entry-length n codes = sym (one-add (length (rowsIn (formFor n codes) n codes))) ∙ rows-length n (formFor n codes) codes
+
+module _ (n : ℕ) (codes out : List ℕ) (layout : Layout) (ok : Writable n codes (length out) layout) where
+  size-is : layout .length ≡ entryLength n (formFor n codes)
+  size-is = layout .sized .2 ∙ ap₂ entryLength (ok .1) (ok .2)
+
+  pub written-answer : Ok (layout .length) ≡ writing n codes (length out)
+  written-answer = ap Ok size-is ∙ sym (ap (λ r. answered r (entryLength n (formFor n codes))) (ok .0))
+
+  pub written-out : (now : List ℕ) → now ≡ entryIn (layout .form) (layout .variables) codes ++ drop (layout .length) out → now ≡ entryBytes n codes ++ drop (layout .length) out
+  written-out now e = e ∙ ap₂ (λ f m. entryIn f m codes ++ drop (layout .length) out) (ok .2) (ok .1)
+
+  pub written-returns : (now : List ℕ) → now ≡ entryIn (layout .form) (layout .variables) codes ++ drop (layout .length) out → ReadsBack n codes (take (layout .length) now)
+  written-returns now e =
+      let front : take (layout .length) now ≡ entryBytes n codes =
+          ap (take (layout .length)) (written-out now e) ∙ take-at (entryBytes n codes) (drop (layout .length) out) (layout .length) (entry-length n codes ∙ sym size-is) in
+      subst (ReadsBack n codes) (sym front) (passed-returns n codes (length out) (ok .0))
