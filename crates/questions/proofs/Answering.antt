@@ -18,7 +18,7 @@ abbrev pub entryBy : ℕ → Form → ℕ → Entry
 entryBy n form next = record { variables = n; form = form; next = next }
 
 -- the entry that the first byte says
-abbrev entryOf : List ℕ → ℕ → Entry
+abbrev pub entryOf : List ℕ → ℕ → Entry
 entryOf bytes at =
     let n : ℕ = variablesOf (getD bytes 0 0) in
     let form : Form = formOf (getD bytes 0 0) in

@@ -5,3 +5,4 @@ pub mod Packing
 pub mod Heading
 pub mod Returning
 pub mod Accepting
+pub mod Walking

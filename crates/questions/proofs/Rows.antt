@@ -30,3 +30,8 @@ lower-inside n OneRow i h = let p : i / 8 < rowLength n = place-in-row n i h in 
 
 pub upper-inside : (n : ℕ) (form : Form) (i : ℕ) → i < 2 ^ n → upperStart n form + i / 8 < entryLength n form
 upper-inside n form i h = let p : i / 8 < rowLength n = place-in-row n i h in omega arith
+
+-- an entry has a first byte
+pub entry-some : (n : ℕ) (form : Form) → 0 < entryLength n form
+entry-some n TwoRows = omega arith
+entry-some n OneRow = omega arith

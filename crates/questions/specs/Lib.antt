@@ -2,3 +2,4 @@ pub mod Faults
 pub mod Layouts
 pub mod Entries
 pub mod Writing
+pub mod Dictionaries

@@ -4,6 +4,8 @@ mod refusal;
 mod size;
 
 pub use counts::Counts;
+pub use counts::CountsDebug;
+pub use counts::CountsPartialEq;
 pub use counts::count_codes;
 pub use refusal::Refusal;
 pub use size::points;

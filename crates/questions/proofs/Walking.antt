@@ -1,0 +1,86 @@
+-- Walking through a dictionary, entry by entry.
+use Prim.Native.Nat.{ℕ, _+_, _-_, _^_, _<_, _≤_}
+use mathlib.Core.Path.{_≡_, refl, sym, ap, subst, _∙_}
+use mathlib.Core.Bool.{true, false, not}
+use mathlib.Core.List.{List, [], _∷_, _++_, map}
+use native.Mathlib.Omega.{arith}
+use lib.Dec.{eqb}
+use lib.ListN.{length, getD, take, drop}
+use Rattle.std.specs.declared.option.Option.{Option}
+use Rattle.std.specs.declared.option.Option.the-variants.{Some, None}
+use Rattle.std.specs.declared.result.Result.{Result}
+use Rattle.std.specs.declared.result.Result.the-variants.{Ok, Err}
+use Rattle.std.proofs.shelf.Counted.{length-map-counting}
+use Rattle.std.proofs.shelf.Lists.{append-assoc, append-nil, length-drop, take-at}
+use Rattle.std.proofs.shelf.Tests.{not-false, or-parts, ltb-false}
+use Rattle.tables.specs.Checks.{answered}
+use Rattle.tables.specs.Tables.{lawfulSize}
+use Rattle.tables.proofs.Passing.{all-pass, when-none}
+use Rattle.questions.specs.declared.dictionary.Stop.{Stop}
+use Rattle.questions.specs.declared.fault.EntryFault.{EntryFault}
+use Rattle.questions.specs.declared.fault.EntryFault.the-variants.{NoByte, Variables, TooShort}
+use Rattle.questions.specs.declared.form.Form.{Form}
+use Rattle.questions.specs.declared.reader.Entry.{Entry}
+use Rattle.questions.specs.Layouts.{variablesOf, formOf, entryLength, code, table}
+use Rattle.questions.specs.Entries.{entryChecks, refusal, reading, rowAfter}
+use Rattle.questions.specs.Dictionaries.{Item, itemAt, anyTable, Holds, ended, stopped, entry}
+use Rattle.questions.proofs.Rows.{entry-some}
+use Rattle.questions.proofs.Answering.{entryOf}
+use Rattle.questions.proofs.Accepting.{lawful-bounds}
+
+-- an answer that is no refusal
+answered-ok : {X F : Type 0} (o : Option F) (x y : X) → answered o x ≡ Ok y → (o ≡ None) × (x ≡ y)
+answered-ok (Some r) x y e = absurd (let z : _≡_ {A = ℕ} 0 1 = cc in let w : ⊥ = omega arith in w)
+answered-ok None x y e = (refl, cc)
+
+-- what an accepted entry says of its sizes
+pub record Sized (file : List ℕ) (at room : ℕ) (e : Entry) : Type 0 where
+  pub lawful : lawfulSize (e .variables) ≡ true
+  pub fits : 2 ^ e .variables ≤ room
+  pub onward : at < e .next
+  pub within : at < length file → e .next ≤ length file
+
+pub sized-entry : (file : List ℕ) (at room : ℕ) (e : Entry) → reading file at room ≡ Ok e → Sized file at room e
+sized-entry file at room e h = subst (Sized file at room) (ok .1) here
+  where
+    ok : (refusal (drop at file) room ≡ None) × (entryOf (drop at file) at ≡ e)
+    ok = answered-ok (refusal (drop at file) room) (entryOf (drop at file) at) e h
+    here : Sized file at room (entryOf (drop at file) at)
+    here =
+        let n : ℕ = variablesOf (getD (drop at file) 0 0) in
+        let form : Form = formOf (getD (drop at file) 0 0) in
+        let passed = all-pass (entryChecks n form (drop at file) room) (ok .0) in
+        let short = or-parts _ _ (when-none _ TooShort (passed .1 .1 .0)) in
+        let long : entryLength n form ≤ length (drop at file) = ltb-false (length (drop at file)) (entryLength n form) (short .0) in
+        record {
+          lawful = not-false (lawfulSize n) (when-none (not (lawfulSize n)) Variables (passed .1 .0));
+          fits = ltb-false room (2 ^ n) (short .1);
+          onward = omega (arith, entry-some n form);
+          within = λ l. omega (arith, length-drop at file)
+        }
+
+-- the entries passed on the way to a byte number: whatever the file holds from there on, from its start it holds these before
+abbrev pub Passed : List ℕ → List Item → ℕ → Type 0
+Passed file done at = (items : List Item) (ending : Option Stop) → Holds file at items ending → Holds file 0 (done ++ items) ending
+
+pub passed-none : (file : List ℕ) → Passed file [] 0
+passed-none file items ending h = h
+
+pub passed-more : (file : List ℕ) (done : List Item) (at : ℕ) (e : Entry) → Passed file done at → at < length file → reading file at anyTable ≡ Ok e
+  → Passed file (done ++ itemAt file at e ∷ []) (e .next)
+passed-more file done at e p l r items ending h =
+    subst (λ all. Holds file 0 all ending) (sym (append-assoc done (itemAt file at e ∷ []) items)) (p (itemAt file at e ∷ items) ending (entry at e items ending l r h))
+
+pub passed-all : (file : List ℕ) (done : List Item) (at : ℕ) → Passed file done at → length file ≤ at → Holds file 0 done None
+passed-all file done at p l = subst (λ all. Holds file 0 all None) (append-nil done) (p [] None (ended at l))
+
+pub passed-stop : (file : List ℕ) (done : List Item) (at : ℕ) (fault : EntryFault) → Passed file done at → at < length file → reading file at anyTable ≡ Err fault
+  → Holds file 0 done (Some (record { at = at; fault = fault }))
+passed-stop file done at fault p l r =
+    subst (λ all. Holds file 0 all (Some (record { at = at; fault = fault }))) (append-nil done) (p [] (Some (record { at = at; fault = fault })) (stopped at fault l r))
+
+-- the front of a row that an entry was read into is its table
+pub row-front : (file : List ℕ) (at : ℕ) (e : Entry) (row : List ℕ) → take (2 ^ e .variables) (rowAfter (Ok e) file at row) ≡ table (e .variables) (e .form) (drop at file)
+row-front file at e row =
+    take-at (table (e .variables) (e .form) (drop at file)) (drop (2 ^ e .variables) row) (2 ^ e .variables)
+      (length-map-counting (code (e .variables) (e .form) (drop at file)) 0 (2 ^ e .variables))
