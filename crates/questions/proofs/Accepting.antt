@@ -21,9 +21,9 @@ use Rattle.questions.specs.declared.fault.WriteFault.the-variants.{Variables, 
 use Rattle.questions.specs.declared.form.Form.{Form}
 use Rattle.questions.specs.declared.form.Form.the-variants.{TwoRows, OneRow}
 use Rattle.questions.specs.declared.layout.Layout.{Layout}
-use Rattle.questions.specs.Layouts.{entryLength}
+use Rattle.questions.specs.Layouts.{formOf, entryLength}
 use Rattle.questions.specs.Writing.{freeAt, wrongAt, formFor, entryIn, rowsIn, entryBytes, writeChecks, writing, ReadsBack, Writable, Unwritable}
-use Rattle.questions.proofs.Returning.{entry-returns, rows-length}
+use Rattle.questions.proofs.Returning.{entry-returns, rows-length, heading-form}
 
 -- the one-row form is chosen only where nothing is free
 one-row-none : (o : Option ℕ) → cond (isSome o) TwoRows OneRow ≡ OneRow → o ≡ None
@@ -38,17 +38,30 @@ nothing-free n codes e i l =
 pub lawful-bounds : (n : ℕ) → lawfulSize n ≡ true → (1 ≤ n) × (n ≤ 10)
 lawful-bounds n e = let p = and-parts (leb 1 n) (leb n 10) e in (leb-true 1 n (p .0), leb-true n 10 (p .1))
 
+-- so does that of a table that passes
+pub passed-bounds : (n : ℕ) (codes : List ℕ) (room : ℕ) → first (writeChecks n codes room) ≡ None → (1 ≤ n) × (n ≤ 10)
+passed-bounds n codes room e =
+    lawful-bounds n (not-false (lawfulSize n) (when-none (not (lawfulSize n)) Variables (all-pass (writeChecks n codes room) e .0)))
+
 -- the entry of a table that passes the checks is read back as that table
 pub passed-returns : (n : ℕ) (codes : List ℕ) (room : ℕ) → first (writeChecks n codes room) ≡ None → ReadsBack n codes (entryBytes n codes)
 passed-returns n codes room e =
     let passed = all-pass (writeChecks n codes room) e in
-    let bounds = lawful-bounds n (not-false (lawfulSize n) (when-none (not (lawfulSize n)) Variables (passed .0))) in
+    let bounds = passed-bounds n codes room e in
     let long = ltb-false (length codes) (2 ^ n) (or-parts _ _ (when-none _ TooShort (passed .1 .0)) .0) in
     let right = none-below (wrongAt codes) (2 ^ n) (mapped-none Code (lowest (2 ^ n) (wrongAt codes)) (passed .1 .1 .0)) in
     entry-returns n (formFor n codes) codes (bounds .0) (bounds .1) long (λ i l. ltb-false 2 (getD codes i 0) (right i l)) (nothing-free n codes)
 
 pub entry-length : (n : ℕ) (codes : List ℕ) → length (entryBytes n codes) ≡ entryLength n (formFor n codes)
 entry-length n codes = sym (one-add (length (rowsIn (formFor n codes) n codes))) ∙ rows-length n (formFor n codes) codes
+
+-- an output row that begins with the entry of a table
+module _ (n : ℕ) (codes rest now : List ℕ) (begins : now ≡ entryBytes n codes ++ rest) where
+  pub front-entry : (size : ℕ) → entryLength n (formFor n codes) ≡ size → take size now ≡ entryBytes n codes
+  front-entry size e = ap (take size) begins ∙ take-at (entryBytes n codes) rest size (entry-length n codes ∙ e)
+
+  pub front-form : n ≤ 10 → formOf (getD now 0 0) ≡ formFor n codes
+  front-form l = ap (λ xs. formOf (getD xs 0 0)) begins ∙ heading-form n (formFor n codes) l
 
 module _ (n : ℕ) (codes out : List ℕ) (layout : Layout) (ok : Writable n codes (length out) layout) where
   size-is : layout .length ≡ entryLength n (formFor n codes)
@@ -62,6 +75,5 @@ module _ (n : ℕ) (codes out : List ℕ) (layout : Layout) (ok : Writable n cod
 
   pub written-returns : (now : List ℕ) → now ≡ entryIn (layout .form) (layout .variables) codes ++ drop (layout .length) out → ReadsBack n codes (take (layout .length) now)
   written-returns now e =
-      let front : take (layout .length) now ≡ entryBytes n codes =
-          ap (take (layout .length)) (written-out now e) ∙ take-at (entryBytes n codes) (drop (layout .length) out) (layout .length) (entry-length n codes ∙ sym size-is) in
+      let front = front-entry n codes (drop (layout .length) out) now (written-out now e) (layout .length) (sym size-is) in
       subst (ReadsBack n codes) (sym front) (passed-returns n codes (length out) (ok .0))

@@ -6,3 +6,4 @@ pub mod Heading
 pub mod Returning
 pub mod Accepting
 pub mod Walking
+pub mod Relisting

@@ -1,11 +1,11 @@
 -- Walking through a dictionary, entry by entry.
 use Prim.Native.Nat.{ℕ, _+_, _-_, _^_, _<_, _≤_}
-use mathlib.Core.Path.{_≡_, refl, sym, ap, subst, _∙_}
-use mathlib.Core.Bool.{true, false, not}
+use mathlib.Core.Path.{_≡_, refl, sym, ap, ap₂, subst, _∙_}
+use mathlib.Core.Bool.{true, false, not, cond}
 use mathlib.Core.List.{List, [], _∷_, _++_, map}
 use native.Mathlib.Omega.{arith}
-use lib.Dec.{eqb}
 use lib.ListN.{length, getD, take, drop}
+use Rattle.std.specs.Options.{valueOr}
 use Rattle.std.specs.declared.option.Option.{Option}
 use Rattle.std.specs.declared.option.Option.the-variants.{Some, None}
 use Rattle.std.specs.declared.result.Result.{Result}
@@ -13,10 +13,9 @@ use Rattle.std.specs.declared.result.Result.the-variants.{Ok, Err}
 use Rattle.std.proofs.shelf.Counted.{length-map-counting}
 use Rattle.std.proofs.shelf.Lists.{append-assoc, append-nil, length-drop, take-at}
 use Rattle.std.proofs.shelf.Tests.{not-false, or-parts, ltb-false}
-use Rattle.tables.specs.Checks.{answered}
-use Rattle.tables.specs.Tables.{lawfulSize}
-use Rattle.tables.proofs.Passing.{all-pass, when-none}
-use Rattle.questions.specs.declared.dictionary.Stop.{Stop}
+use Rattle.tables.specs.Tables.{lawfulSize, sized}
+use Rattle.tables.proofs.Passing.{all-pass, when-none, answered-ok}
+use Rattle.questions.specs.declared.listing.Stop.{Stop}
 use Rattle.questions.specs.declared.fault.EntryFault.{EntryFault}
 use Rattle.questions.specs.declared.fault.EntryFault.the-variants.{NoByte, Variables, TooShort}
 use Rattle.questions.specs.declared.form.Form.{Form}
@@ -27,11 +26,6 @@ use Rattle.questions.specs.Dictionaries.{Item, itemAt, anyTable, Holds, ended,
 use Rattle.questions.proofs.Rows.{entry-some}
 use Rattle.questions.proofs.Answering.{entryOf}
 use Rattle.questions.proofs.Accepting.{lawful-bounds}
-
--- an answer that is no refusal
-answered-ok : {X F : Type 0} (o : Option F) (x y : X) → answered o x ≡ Ok y → (o ≡ None) × (x ≡ y)
-answered-ok (Some r) x y e = absurd (let z : _≡_ {A = ℕ} 0 1 = cc in let w : ⊥ = omega arith in w)
-answered-ok None x y e = (refl, cc)
 
 -- what an accepted entry says of its sizes
 pub record Sized (file : List ℕ) (at room : ℕ) (e : Entry) : Type 0 where
@@ -59,6 +53,10 @@ sized-entry file at room e h = subst (Sized file at room) (ok .1) here
           within = λ l. omega (arith, length-drop at file)
         }
 
+-- a row of 1,024 codes takes any table
+pub read-any : {r : Result Entry EntryFault} (file : List ℕ) (at room : ℕ) → room ≡ anyTable → r ≡ reading file at room → reading file at anyTable ≡ r
+read-any file at room e read = ap (reading file at) (sym e) ∙ sym read
+
 -- the entries passed on the way to a byte number: whatever the file holds from there on, from its start it holds these before
 abbrev pub Passed : List ℕ → List Item → ℕ → Type 0
 Passed file done at = (items : List Item) (ending : Option Stop) → Holds file at items ending → Holds file 0 (done ++ items) ending
@@ -80,7 +78,16 @@ passed-stop file done at fault p l r =
     subst (λ all. Holds file 0 all (Some (record { at = at; fault = fault }))) (append-nil done) (p [] (Some (record { at = at; fault = fault })) (stopped at fault l r))
 
 -- the front of a row that an entry was read into is its table
-pub row-front : (file : List ℕ) (at : ℕ) (e : Entry) (row : List ℕ) → take (2 ^ e .variables) (rowAfter (Ok e) file at row) ≡ table (e .variables) (e .form) (drop at file)
-row-front file at e row =
-    take-at (table (e .variables) (e .form) (drop at file)) (drop (2 ^ e .variables) row) (2 ^ e .variables)
-      (length-map-counting (code (e .variables) (e .form) (drop at file)) 0 (2 ^ e .variables))
+pub front-codes : (file : List ℕ) (at room : ℕ) (e : Entry) (before row front : List ℕ) → reading file at room ≡ Ok e → row ≡ rowAfter (Ok e) file at before
+  → front ≡ take (valueOr (sized (e .variables)) 0) row → front ≡ itemAt file at e .codes
+front-codes file at room e before row front read after f =
+    let n = e .variables in
+    let codes = table n (e .form) (drop at file) in
+    let points : valueOr (sized n) 0 ≡ 2 ^ n = ap (λ b. valueOr (cond b (Some (2 ^ n)) None) 0) (sized-entry file at room e read .lawful) in
+    f ∙ ap₂ take points after ∙ take-at codes (drop (2 ^ n) before) (2 ^ n) (length-map-counting (code n (e .form) (drop at file)) 0 (2 ^ n))
+
+-- each entry brings the byte number nearer to the end
+pub onward : (file : List ℕ) (at room : ℕ) (e : Entry) → reading file at room ≡ Ok e → at < length file → length file - e .next < length file - at
+onward file at room e read l =
+    let s = sized-entry file at room e read in
+    omega (arith, s .onward, s .within l)

@@ -8,13 +8,15 @@ use Rattle.std.specs.shelf.Lists.{All, joined}
 use Rattle.std.specs.declared.option.Option.{Option}
 use Rattle.std.specs.declared.option.Option.the-variants.{Some, None}
 use Rattle.std.specs.declared.result.Result.the-variants.{Ok, Err}
+use Rattle.tables.specs.Checks.{first}
 use Rattle.tables.specs.Tables.{lawfulSize, counted}
 use Rattle.questions.specs.Layouts.{table}
 use Rattle.questions.specs.Entries.{reading}
-use Rattle.questions.specs.Writing.{formFor, entryBytes}
-use Rattle.questions.specs.declared.dictionary.Listed.{Listed}
-use Rattle.questions.specs.declared.dictionary.Rewritten.{Rewritten}
-use Rattle.questions.specs.declared.dictionary.Stop.{Stop}
+use Rattle.questions.specs.Writing.{formFor, entryBytes, writeChecks}
+use Rattle.questions.specs.declared.append.AppendError.{AppendError}
+use Rattle.questions.specs.declared.append.AppendError.the-variants.{Refused, Memory}
+use Rattle.questions.specs.declared.listing.Listed.{Listed}
+use Rattle.questions.specs.declared.listing.Stop.{Stop}
 use Rattle.questions.specs.declared.fault.EntryFault.{EntryFault}
 use Rattle.questions.specs.declared.reader.Entry.{Entry}
 
@@ -40,6 +42,10 @@ tableOf item = record { variables = item .entry .variables; codes = item .codes 
 abbrev pub anyTable : ℕ
 anyTable = 1024
 
+-- the number of bytes of an output row that takes any entry
+abbrev pub anyEntry : ℕ
+anyEntry = 257
+
 abbrev pub itemAt : List ℕ → ℕ → Entry → Item
 itemAt file at e = record { at = at; entry = e; codes = table (e .variables) (e .form) (drop at file) }
 
@@ -58,6 +64,17 @@ ReadsAs file tables = (items : List Item) × Holds file 0 items None × (map tab
 abbrev pub written : List Table → List ℕ
 written = joined (λ t. entryBytes (t .variables) (t .codes))
 
+-- an entry appended to a file: its bytes are added, and the answer is what the reader gives there
+pub record Appended (n : ℕ) (codes before after : List ℕ) (answer : Entry) : Type 0 where
+  pub bytes : after ≡ before ++ entryBytes n codes
+  pub entry-is : answer ≡ record { variables = n; form = formFor n codes; next = length after }
+  pub passes : first (writeChecks n codes anyEntry) ≡ None
+
+-- why none is: the writer's own refusal, or want of memory where the writer would accept
+abbrev pub NotAppended : ℕ → List ℕ → AppendError → Type 0
+NotAppended n codes (Refused fault) = first (writeChecks n codes anyEntry) ≡ Some fault
+NotAppended n codes Memory = first (writeChecks n codes anyEntry) ≡ None
+
 -- a file made by writing any list of tables reads back as that list, in that order
 abbrev pub EveryListReadsBack : Type 0
 EveryListReadsBack = (tables : List Table) → All Lawful tables → ReadsAs (written tables) tables
@@ -65,10 +82,3 @@ EveryListReadsBack = (tables : List Table) → All Lawful tables → ReadsAs (wr
 -- what a listing says of an entry
 abbrev pub listed : Item → Listed
 listed item = record { at = item .at; entry = item .entry; counts = counted (item .codes) }
-
--- where each entry of a file goes when its tables are written anew from a byte number on, and in which form
-abbrev pub rewrites : ℕ → List Item → List Rewritten
-rewrites to [] = []
-rewrites to (item ∷ items) =
-    record { from = item .at; to = to; before = item .entry .form; after = formFor (item .entry .variables) (item .codes) }
-    ∷ rewrites (to + length (entryBytes (item .entry .variables) (item .codes))) items

@@ -3,3 +3,4 @@ pub mod Layouts
 pub mod Entries
 pub mod Writing
 pub mod Dictionaries
+pub mod Rewriting

@@ -40,7 +40,7 @@ pub fn layout_of(variables: u8, form: Form) -> Option<Layout>
 }
 
 // What the first byte of an entry says.
-fn heading(first: u8) -> (u8, Form)
+pub fn heading(first: u8) -> (u8, Form)
     ensures { λ r. ⌜ (r .0 ≡ variablesOf first) × (r .1 ≡ formOf first) ⌝ }
 {
     if first < 16 {

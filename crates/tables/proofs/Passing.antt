@@ -10,8 +10,9 @@ use Rattle.std.specs.Options.{mapped}
 use Rattle.std.specs.shelf.Lists.{All}
 use Rattle.std.specs.declared.option.Option.{Option}
 use Rattle.std.specs.declared.option.Option.the-variants.{Some, None}
+use Rattle.std.specs.declared.result.Result.the-variants.{Ok}
 use Rattle.std.proofs.shelf.Tests.{cases-eq}
-use Rattle.tables.specs.Checks.{orElse, when, first, lowest}
+use Rattle.tables.specs.Checks.{orElse, when, first, lowest, answered}
 
 -- checks that do not refuse, one by one
 pub orElse-none : {F : Type 0} (check later : Option F) → orElse check later ≡ None → (check ≡ None) × (later ≡ None)
@@ -33,6 +34,11 @@ when-none false r e = refl
 pub mapped-none : {X F : Type 0} (f : X → F) (o : Option X) → mapped f o ≡ None → o ≡ None
 mapped-none f (Some x) e = absurd (let z : _≡_ {A = ℕ} 0 1 = cc in let y : ⊥ = omega arith in y)
 mapped-none f None e = refl
+
+-- an answer that is no refusal
+pub answered-ok : {X F : Type 0} (o : Option F) (x y : X) → answered o x ≡ Ok y → (o ≡ None) × (x ≡ y)
+answered-ok (Some r) x y e = absurd (let z : _≡_ {A = ℕ} 0 1 = cc in let w : ⊥ = omega arith in w)
+answered-ok None x y e = (refl, cc)
 
 module _ (p : ℕ → Bool) where
   -- one number more

@@ -9,3 +9,4 @@ pub use counts::CountsPartialEq;
 pub use counts::count_codes;
 pub use refusal::Refusal;
 pub use size::points;
+pub use size::table_in;

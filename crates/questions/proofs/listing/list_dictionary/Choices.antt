@@ -6,7 +6,7 @@ use lib.ListN.{length}
 use Rattle.std.specs.Of.Vec.{vec-items}
 use Rattle.questions.specs.Dictionaries.{Item, listed}
 use Rattle.questions.proofs.Walking.{Passed}
-use Rattle.questions.proofs.dictionary.list_dictionary.Given as given
+use Rattle.questions.proofs.listing.list_dictionary.Given as given
 
 abbrev pub Inv-loop-at : given.InvT-loop-at
 Inv-loop-at l =
