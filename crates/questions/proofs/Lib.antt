@@ -7,3 +7,4 @@ pub mod Returning
 pub mod Accepting
 pub mod Walking
 pub mod Relisting
+pub mod Holding

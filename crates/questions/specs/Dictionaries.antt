@@ -56,6 +56,12 @@ pub data Holds (file : List ℕ) : ℕ → List Item → Option Stop → Type 0 
   entry : (at : ℕ) (e : Entry) (items : List Item) (ending : Option Stop) → at < length file → reading file at anyTable ≡ Ok e
     → Holds file (e .next) items ending → Holds file at (itemAt file at e ∷ items) ending
 
+-- a file holds one list of entries, with one ending
+abbrev pub HoldsOneList : Type 0
+HoldsOneList =
+    (file : List ℕ) (at : ℕ) (items others : List Item) (ending other : Option Stop)
+    → Holds file at items ending → Holds file at others other → (items ≡ others) × (ending ≡ other)
+
 -- the tables of a file that holds nothing but entries
 abbrev pub ReadsAs : List ℕ → List Table → Type 0
 ReadsAs file tables = (items : List Item) × Holds file 0 items None × (map tableOf items ≡ tables)

@@ -2,7 +2,7 @@ ghost use mathlib.Core.Path.{_≡_};
 ghost use mathlib.Core.List.{List, map};
 ghost use Rattle.std.specs.Of.Vec.{vec-items};
 ghost use Rattle.std.specs.Vec.{made};
-ghost use Rattle.questions.specs.Dictionaries.{Item, Holds, listed};
+ghost use Rattle.questions.specs.Dictionaries.{Item, Holds, HoldsOneList, listed};
 use super::fault::EntryFault;
 use super::fault::EntryFaultDebug;
 use super::fault::EntryFaultPartialEq;
@@ -42,7 +42,8 @@ pub struct Listing {
 
 // Lists the entries of a dictionary.
 pub fn list_dictionary(heap: Global, file: &[u8]) -> Result<Listing, AllocError>
-    ensures { λ r. ⌜ made r (λ l. (items : List Item) × Holds (now (file .entry)) 0 items (l .stop) × (vec-items (l .entries) ≡ map listed items)) ⌝ }
+    ensures entries { λ r. ⌜ made r (λ l. (items : List Item) × Holds (now (file .entry)) 0 items (l .stop) × (vec-items (l .entries) ≡ map listed items)) ⌝ }
+    ensures one_list { λ _. ⌜ HoldsOneList ⌝ }
 {
     let mut row = [0; 1024];
     let mut entries = Vec::new(heap);

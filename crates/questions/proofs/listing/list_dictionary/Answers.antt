@@ -3,9 +3,11 @@ use mathlib.Core.Path.{_≡_, sym, ap, ap₂, _∙_}
 use mathlib.Core.List.{[], _∷_, _++_}
 use Rattle.std.specs.declared.result.Result.the-variants.{Ok}
 use Rattle.std.proofs.shelf.Lists.{map-push}
+use Rattle.std.proofs.shelf.Results.{err-from-errBy}
 use Rattle.tables.specs.Tables.{counted}
 use Rattle.questions.specs.Entries.{reading}
 use Rattle.questions.specs.Dictionaries.{anyTable, itemAt, listed}
+use Rattle.questions.proofs.Holding.{holds-one-list}
 use Rattle.questions.proofs.Walking.{passed-more, passed-all, passed-stop, front-codes, read-any, sized-entry, onward}
 use Rattle.questions.proofs.listing.list_dictionary.Needs as need
 
@@ -40,7 +42,14 @@ returns-in-Err c =
     let file = c .args .file .now in
     let at = c .loop-at .at in
     let read = read-any file at _ (c .loop-at .inv .0) (c .in-Err .ensures tt .answer) in
-    (done .0, passed-stop file (done .0) at (c .in-Err .fault) (done .2) (c .loop-at-test .taken) read, done .1)
+    record { entries = (done .0, passed-stop file (done .0) at (c .in-Err .fault) (done .2) (c .loop-at-test .taken) read, done .1); one-list = holds-one-list }
+
+pub returns-in-Break-push : need.returns-in-Break-push
+returns-in-Break-push c =
+    let p = err-from-errBy (c .from-residual .result) (c .from-residual .ensures .1) in
+    rw (p .1) (record { entries = tt; one-list = holds-one-list })
 
 pub returns : need.returns
-returns c = let done = c .loop-at .inv .2 in (done .0, passed-all (c .args .file .now) (done .0) (c .loop-at .at) (done .2) (c .loop-at-test .left), done .1)
+returns c =
+    let done = c .loop-at .inv .2 in
+    record { entries = (done .0, passed-all (c .args .file .now) (done .0) (c .loop-at .at) (done .2) (c .loop-at-test .left), done .1); one-list = holds-one-list }
