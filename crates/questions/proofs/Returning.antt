@@ -34,7 +34,7 @@ use Rattle.questions.specs.Entries.{entryChecks, spareAt, aboveAt, readingFrom
 use Rattle.questions.specs.Writing.{digitOf, packed, rowByte, rowBytes, rowsIn, firstByte, entryIn, ReadsBack}
 use Rattle.questions.proofs.Rows.{place-in-row}
 use Rattle.questions.proofs.Packing.{digit-le, packed-lt, packed-digit}
-use Rattle.questions.proofs.Heading.{row-length}
+use Rattle.questions.proofs.Pasting.{row-length}
 use Rattle.questions.proofs.Answering.{entryBy}
 
 -- the first byte says the number of variables and the form

@@ -6,8 +6,8 @@ ghost use Rattle.questions.specs.Dictionaries.{Appended, NotAppended};
 use super::fault::WriteFault;
 use super::fault::WriteFaultDebug;
 use super::fault::WriteFaultPartialEq;
+use super::heading::heading;
 use super::reader::Entry;
-use super::reader::heading;
 use super::writer::write_entry;
 use std::alloc::AllocError;
 

@@ -47,8 +47,8 @@ pub impl fmt::Display for EntryFault as EntryFaultDisplay {
             EntryFault::NoByte => write!(f, "the file has no byte there"),
             EntryFault::Variables => write!(f, "the first byte names no number of variables from 1 to 10"),
             EntryFault::TooShort => write!(f, "the file ends within the entry"),
-            EntryFault::SpareDigit { .. } => write!(f, "a digit that stands for no assignment is set"),
-            EntryFault::LowerAboveUpper { .. } => write!(f, "the lower row is above the upper row"),
+            EntryFault::SpareDigit { .. } => write!(f, "a digit that stands for no assignment is set in that byte of the entry"),
+            EntryFault::LowerAboveUpper { .. } => write!(f, "the lower row is above the upper row at that assignment"),
         }
     }
 }

@@ -1,21 +1,19 @@
 ghost use mathlib.Core.Path.{_≡_};
-ghost use mathlib.Core.Bool.{true, false};
 ghost use mathlib.Core.List.{_++_};
-ghost use Prim.Native.Nat.{ℕ, _+_, _/_, _^_, _<_, _≤_};
+ghost use Prim.Native.Nat.{_+_, _/_, _^_, _<_, _≤_};
 ghost use lib.ListN.{length, drop};
-ghost use Rattle.std.specs.Options.{Cases as BySome};
 ghost use Rattle.std.specs.Results.{Cases};
 ghost use Rattle.std.specs.Vec.{made};
-ghost use Rattle.tables.specs.Tables.{lawfulSize};
 ghost use Rattle.tables.specs.Checks.{lowest};
-ghost use Rattle.questions.specs.Layouts.{rowDigit, code, table, variablesOf, formOf, AdmitsBetween};
+ghost use Rattle.questions.specs.Layouts.{rowDigit, code, table, AdmitsBetween};
 ghost use Rattle.questions.specs.Entries.{spareAt, aboveAt, reading, rowAfter, Accepted, Refused};
 use super::fault::EntryFault;
 use super::form::Form;
 use super::form::FormDebug;
 use super::form::FormPartialEq;
+use super::heading::heading;
+use super::heading::layout_of;
 use super::layout::Layout;
-use tables::points;
 
 // What an accepted entry is, besides its table.
 #[derive(Clone, Copy, PartialEq, Eq, Debug)]
@@ -24,30 +22,6 @@ pub struct Entry {
     pub form: Form,
     // the byte number of the next entry
     pub next: usize,
-}
-
-// The layout of an entry of so many variables; none where that number is not from 1 to 10.
-pub fn layout_of(variables: u8, form: Form) -> Option<Layout>
-    ensures { λ r. ⌜ BySome r (lawfulSize variables ≡ false) (λ l. (lawfulSize variables ≡ true) × (l .variables ≡ variables) × (l .form ≡ form)) ⌝ }
-{
-    let points = points(variables)?;
-    let row = if variables < 3 { 1 } else { points / 8 };
-    let upper = match form {
-        Form::TwoRows => 1 + row,
-        Form::OneRow => 1,
-    };
-    Some(Layout { variables, form, points, upper, length: upper + row })
-}
-
-// What the first byte of an entry says.
-pub fn heading(first: u8) -> (u8, Form)
-    ensures { λ r. ⌜ (r .0 ≡ variablesOf first) × (r .1 ≡ formOf first) ⌝ }
-{
-    if first < 16 {
-        (first, Form::TwoRows)
-    } else {
-        (first - 16, Form::OneRow)
-    }
 }
 
 // The digit for assignment i in the row that starts at a byte.

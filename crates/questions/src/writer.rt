@@ -12,8 +12,8 @@ ghost use Rattle.questions.specs.Writing.{digitOf, packed, rowBytes, formFor, 
 use super::fault::WriteFault;
 use super::form::Form;
 use super::form::Side;
+use super::heading::layout_of;
 use super::layout::Layout;
-use super::reader::layout_of;
 use tables::points;
 
 // A code's digit in either row.

@@ -10,3 +10,6 @@ pub fn worked_questions() -> usize
 {
     22
 }
+
+#[cfg(test)]
+mod tests;

@@ -1,5 +1,5 @@
 -- The rows, one behind the other, and then the first byte.
-use Rattle.questions.proofs.Heading.{entry-one, entry-two}
+use Rattle.questions.proofs.Pasting.{entry-one, entry-two}
 use Rattle.questions.proofs.writer.put_entry.Needs as need
 
 pub returns-in-TwoRows : need.returns-in-TwoRows
