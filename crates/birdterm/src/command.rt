@@ -38,13 +38,23 @@ pub fn parse<'a>(words: &[&'a str]) -> Result<Command<'a>, Mistake<'a>> {
         ("list", 2) => Ok(Command::List { file: words[1] }),
         ("list", _) => Err(Mistake::Usage { usage: "list FILE" }),
         ("show", 3) => match words[2].parse::<usize>() {
-            Ok(byte) => Ok(Command::Show { file: words[1], byte }),
+            Ok(byte) => Ok(Command::Show {
+                file: words[1],
+                byte,
+            }),
             Err(_) => Err(Mistake::ByteNumber { word: words[2] }),
         },
-        ("show", _) => Err(Mistake::Usage { usage: "show FILE BYTE" }),
+        ("show", _) => Err(Mistake::Usage {
+            usage: "show FILE BYTE",
+        }),
         ("rewrite", 3) if words[1] == words[2] => Err(Mistake::Onto { file: words[1] }),
-        ("rewrite", 3) => Ok(Command::Rewrite { file: words[1], to: words[2] }),
-        ("rewrite", _) => Err(Mistake::Usage { usage: "rewrite FILE TO" }),
+        ("rewrite", 3) => Ok(Command::Rewrite {
+            file: words[1],
+            to: words[2],
+        }),
+        ("rewrite", _) => Err(Mistake::Usage {
+            usage: "rewrite FILE TO",
+        }),
         ("worked", 1) => Ok(Command::Worked),
         ("worked", _) => Err(Mistake::Usage { usage: "worked" }),
         ("help", 1) => Ok(Command::Help),
@@ -57,9 +67,15 @@ pub impl<'a> fmt::Display for Mistake<'a> as MistakeDisplay {
     fn fmt<W: fmt::Write>(&self, f: &mut fmt::Formatter<W>) -> fmt::Result {
         match self {
             Mistake::Empty => write!(f, "no command on this line; help lists the commands"),
-            Mistake::Unknown { word } => write!(f, "{word:?} is no command; help lists the commands"),
+            Mistake::Unknown { word } => write!(
+                f,
+                "{word:?} is no command; help lists the commands"
+            ),
             Mistake::Usage { usage } => write!(f, "the form is {usage}"),
-            Mistake::Onto { file } => write!(f, "{file} is not written over itself; name another file"),
+            Mistake::Onto { file } => write!(
+                f,
+                "{file} is not written over itself; name another file"
+            ),
             Mistake::ByteNumber { word } => write!(f, "{word:?} is no byte number"),
         }
     }

@@ -4,9 +4,9 @@ use crate::command::MistakeDisplay;
 use crate::command::USAGE;
 use crate::command::parse;
 use crate::grid::print_grid;
+use questions::Entry;
 use questions::EntryFaultDisplay;
 use questions::EntryFaultRefusal;
-use questions::Entry;
 use questions::Form;
 use questions::FormPartialEq;
 use questions::Listed;
@@ -45,7 +45,10 @@ fn help(rt: &LibcRuntime) -> io::Result<()> {
 
 fn worked(rt: &LibcRuntime) -> io::Result<()> {
     let count = worked_questions();
-    println!(rt, "worked: {count} questions are proved to be answered as their table says")
+    println!(
+        rt,
+        "worked: {count} questions are proved to be answered as their table says"
+    )
 }
 
 fn form_name(form: Form) -> &'static str {
@@ -61,7 +64,10 @@ fn print_refusal(rt: &LibcRuntime, file: &str, stop: Stop) -> io::Result<()> {
     let spot = stop.fault.spot();
     let at = stop.at;
     let meaning = stop.fault;
-    println!(rt, "{file}: refused: number {number}, spot {spot}, entry at byte {at}: {meaning}")
+    println!(
+        rt,
+        "{file}: refused: number {number}, spot {spot}, entry at byte {at}: {meaning}"
+    )
 }
 
 // The bytes of a file; where it cannot be read, that is said.
@@ -82,7 +88,10 @@ fn print_listed(rt: &LibcRuntime, listed: &Listed) -> io::Result<()> {
     let zeros = listed.counts.zeros;
     let ones = listed.counts.ones;
     let frees = listed.counts.frees;
-    println!(rt, "byte {at}: n = {variables}, {form}, codes: {zeros} of 0, {ones} of 1, {frees} free")
+    println!(
+        rt,
+        "byte {at}: n = {variables}, {form}, codes: {zeros} of 0, {ones} of 1, {frees} free"
+    )
 }
 
 fn list(rt: &LibcRuntime, file: &str) -> io::Result<()> {
@@ -101,10 +110,23 @@ fn list(rt: &LibcRuntime, file: &str) -> io::Result<()> {
     println!(rt, "{file}: entries read: {count}, bytes: {size}")
 }
 
-fn print_entry(rt: &LibcRuntime, file: &str, byte: usize, entry: Entry, row: &[u8]) -> io::Result<()> {
+fn print_entry(
+    rt: &LibcRuntime,
+    file: &str,
+    byte: usize,
+    entry: Entry,
+    row: &[u8],
+) -> io::Result<()> {
     let codes = table_in(row, entry.variables);
     let counts = count_codes(codes);
-    print_listed(rt, &Listed { at: byte, entry, counts })?;
+    print_listed(
+        rt,
+        &Listed {
+            at: byte,
+            entry,
+            counts,
+        },
+    )?;
     print_grid(rt, entry.variables, codes)?;
     let next = entry.next;
     println!(rt, "{file}: the next entry is at byte {next}")
@@ -140,16 +162,28 @@ fn print_changes(rt: &LibcRuntime, rewriting: &Rewriting) -> io::Result<()> {
             moved = moved.saturating_add(1);
         }
     }
-    println!(rt, "entries with another form: {changed}, others that moved: {moved}")
+    println!(
+        rt,
+        "entries with another form: {changed}, others that moved: {moved}"
+    )
 }
 
-fn write_file(rt: &LibcRuntime, file: &str, to: &str, before: usize, rewriting: &Rewriting) -> io::Result<()> {
+fn write_file(
+    rt: &LibcRuntime,
+    file: &str,
+    to: &str,
+    before: usize,
+    rewriting: &Rewriting,
+) -> io::Result<()> {
     match fs::write(rt, to, rewriting.bytes.as_slice()) {
         Ok(()) => {
             print_changes(rt, rewriting)?;
             let count = rewriting.entries.len();
             let after = rewriting.bytes.len();
-            println!(rt, "{file}: entries written to {to}: {count}, bytes before: {before}, after: {after}")
+            println!(
+                rt,
+                "{file}: entries written to {to}: {count}, bytes before: {before}, after: {after}"
+            )
         }
         Err(error) => println!(rt, "{to}: cannot be written: {error}"),
     }

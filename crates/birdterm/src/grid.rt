@@ -39,7 +39,11 @@ fn push_letters(text: &mut String, low: u8, high: u8) -> Result<(), AllocError> 
 // The values of so many variables in a number, the highest first.
 fn push_values(text: &mut String, number: usize, variables: u8) -> Result<(), AllocError> {
     for variable in (0..variables).rev() {
-        let value = if variable < 16 { (number >> variable) & 1 } else { 0 };
+        let value = if variable < 16 {
+            (number >> variable) & 1
+        } else {
+            0
+        };
         text.push(if value == 1 { '1' } else { '0' })?;
     }
     Ok(())
@@ -60,7 +64,13 @@ fn heading(heap: Global, variables: u8, across: u8, columns: usize) -> Result<St
 }
 
 // One line of the grid: the values of the variables down, and a code for each column.
-fn line(heap: Global, down: u8, across: u8, row: usize, codes: &[u8]) -> Result<String, AllocError> {
+fn line(
+    heap: Global,
+    down: u8,
+    across: u8,
+    row: usize,
+    codes: &[u8],
+) -> Result<String, AllocError> {
     let mut text = String::new(heap);
     push_values(&mut text, row, down)?;
     text.push_str("   ")?;

@@ -1,28 +1,26 @@
 -- What the writer's checks say of a table that passes them, and of the entry that is then written.
 use Prim.Native.Nat.{ℕ, _+_, _^_, _<_, _≤_}
 use mathlib.Core.Path.{_≡_, refl, sym, ap, ap₂, subst, _∙_}
-use mathlib.Core.Bool.{Bool, true, false, cond, not}
-use mathlib.Core.List.{List, _∷_, _++_}
+use mathlib.Core.Bool.{true, cond, not}
+use mathlib.Core.List.{List, _++_}
 use native.Mathlib.Omega.{arith}
-use lib.Dec.{ltb, leb}
+use lib.Dec.{leb}
 use lib.ListN.{length, getD, take, drop}
 use Rattle.std.specs.Options.{isSome}
 use Rattle.std.specs.declared.option.Option.{Option}
 use Rattle.std.specs.declared.option.Option.the-variants.{Some, None}
-use Rattle.std.specs.declared.result.Result.the-variants.{Ok, Err}
-use Rattle.std.proofs.shelf.Lists.{take-at, length-append}
+use Rattle.std.specs.declared.result.Result.the-variants.{Ok}
+use Rattle.std.proofs.shelf.Lists.{take-at}
 use Rattle.std.proofs.shelf.Tests.{not-false, and-parts, or-parts, leb-true, ltb-false, eqb-false}
 use native.Mathlib.Numerals.{one-add}
-use Rattle.tables.specs.Checks.{first, lowest, when, answered}
+use Rattle.tables.specs.Checks.{first, lowest, answered}
 use Rattle.tables.specs.Tables.{lawfulSize}
 use Rattle.tables.proofs.Passing.{all-pass, when-none, mapped-none, none-below}
-use Rattle.questions.specs.declared.fault.WriteFault.{WriteFault}
 use Rattle.questions.specs.declared.fault.WriteFault.the-variants.{Variables, TooShort, Code}
-use Rattle.questions.specs.declared.form.Form.{Form}
 use Rattle.questions.specs.declared.form.Form.the-variants.{TwoRows, OneRow}
 use Rattle.questions.specs.declared.layout.Layout.{Layout}
 use Rattle.questions.specs.Layouts.{formOf, entryLength}
-use Rattle.questions.specs.Writing.{freeAt, wrongAt, formFor, entryIn, rowsIn, entryBytes, writeChecks, writing, ReadsBack, Writable, Unwritable}
+use Rattle.questions.specs.Writing.{freeAt, wrongAt, formFor, entryIn, rowsIn, entryBytes, writeChecks, writing, ReadsBack, Writable}
 use Rattle.questions.proofs.Returning.{entry-returns, rows-length, heading-form}
 
 -- the one-row form is chosen only where nothing is free

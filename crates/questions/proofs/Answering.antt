@@ -3,7 +3,6 @@ use Prim.Native.Nat.{ℕ, _+_}
 use mathlib.Core.Path.{_≡_, sym, ap, ap₂, _∙_}
 use mathlib.Core.List.{List}
 use lib.ListN.{getD}
-use Rattle.std.specs.declared.option.Option.the-variants.{Some, None}
 use Rattle.std.specs.declared.result.Result.the-variants.{Ok, Err}
 use Rattle.tables.specs.Checks.{answered}
 use Rattle.questions.specs.declared.fault.EntryFault.{EntryFault}
@@ -11,7 +10,7 @@ use Rattle.questions.specs.declared.form.Form.{Form}
 use Rattle.questions.specs.declared.layout.Layout.{Layout}
 use Rattle.questions.specs.declared.reader.Entry.{Entry}
 use Rattle.questions.specs.Layouts.{variablesOf, formOf, entryLength}
-use Rattle.questions.specs.Entries.{refusal, readingFrom, Accepted, Refused}
+use Rattle.questions.specs.Entries.{readingFrom, Accepted, Refused}
 
 -- an entry by its three parts
 abbrev pub entryBy : ℕ → Form → ℕ → Entry
@@ -29,9 +28,9 @@ answer-refused bytes whole at room fault e h =
     sym (ap (λ r. answered r (entryOf bytes at)) h) ∙ ap (λ bs. readingFrom bs at room) e
 
 pub answer-accepted : (bytes whole : List ℕ) (at room : ℕ) (layout : Layout) → bytes ≡ whole → Accepted bytes room layout
-  → Ok (record { variables = layout .variables; form = layout .form; next = at + layout .length }) ≡ readingFrom whole at room
+    → Ok (record { variables = layout .variables; form = layout .form; next = at + layout .length }) ≡ readingFrom whole at room
 answer-accepted bytes whole at room layout e h =
     let same : entryBy (layout .variables) (layout .form) (at + layout .length) ≡ entryOf bytes at =
-        ap (λ l. entryBy (layout .variables) (layout .form) (at + l)) (layout .sized .2)
-        ∙ ap₂ (λ n form. entryBy n form (at + entryLength n form)) (h .1) (h .2) in
+    ap (λ l. entryBy (layout .variables) (layout .form) (at + l)) (layout .sized .2)
+    ∙ ap₂ (λ n form. entryBy n form (at + entryLength n form)) (h .1) (h .2) in
     ap Ok same ∙ sym (ap (λ r. answered r (entryOf bytes at)) (h .0)) ∙ ap (λ bs. readingFrom bs at room) e

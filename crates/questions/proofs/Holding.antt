@@ -1,18 +1,16 @@
 -- A file holds one list of entries only, since the reader gives one answer at each byte number.
 use Prim.Native.Nat.{ℕ, _<_, _≤_}
-use mathlib.Core.Path.{_≡_, refl, sym, ap, ap₂, subst, _∙_}
-use mathlib.Core.List.{List, [], _∷_}
+use mathlib.Core.Path.{_≡_, refl, sym, ap, ap₂, subst}
+use mathlib.Core.List.{[], _∷_}
 use native.Mathlib.Omega.{arith}
 use lib.ListN.{length}
-use Rattle.std.specs.declared.option.Option.{Option}
-use Rattle.std.specs.declared.option.Option.the-variants.{Some, None}
+use Rattle.std.specs.declared.option.Option.the-variants.{Some}
 use Rattle.std.specs.declared.result.Result.{Result}
 use Rattle.std.specs.declared.result.Result.the-variants.{Ok, Err}
-use Rattle.questions.specs.declared.listing.Stop.{Stop}
 use Rattle.questions.specs.declared.fault.EntryFault.{EntryFault}
 use Rattle.questions.specs.declared.reader.Entry.{Entry}
 use Rattle.questions.specs.Entries.{reading}
-use Rattle.questions.specs.Dictionaries.{Item, itemAt, anyTable, Holds, ended, stopped, entry, HoldsOneList}
+use Rattle.questions.specs.Dictionaries.{itemAt, anyTable, Holds, ended, stopped, entry, HoldsOneList}
 
 -- two answers to one question are one
 same-entry : (r : Result Entry EntryFault) (e f : Entry) → r ≡ Ok e → r ≡ Ok f → e ≡ f

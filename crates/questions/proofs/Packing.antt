@@ -1,7 +1,6 @@
 -- Digits packed into a number: how large it is, and that each digit can be read off again.
 use Prim.Native.Nat.{ℕ, zero, suc, _+_, _-_, _*_, _/_, _%_, _^_, _<_, _≤_}
-use mathlib.Core.Path.{_≡_, refl, sym, ap, ap₂, _∙_}
-use mathlib.Core.Bool.{cond}
+use mathlib.Core.Path.{_≡_, sym, ap, ap₂, _∙_}
 use mathlib.Core.Logic.{_⊎_, inl, inr}
 use native.Mathlib.Omega.{arith}
 use native.Mathlib.Nat.{pow-suc, add-comm, add-mul-div-right, add-mul-mod-self-right, mul-assoc}
@@ -27,7 +26,7 @@ digit-below k m low x l =
     let exponent : m ≡ (d + 1) + k = omega arith in
     let weight : 2 ^ m ≡ (2 ^ d * 2) * 2 ^ k = ap (λ e. 2 ^ e) exponent ∙ pow-add 2 (d + 1) k ∙ ap (λ y. y * 2 ^ k) (pow-add 2 d 1) in
     let even : x * 2 ^ m ≡ ((x * 2 ^ d) * 2) * 2 ^ k =
-        ap (λ y. x * y) weight ∙ sym (mul-assoc x (2 ^ d * 2) (2 ^ k)) ∙ ap (λ y. y * 2 ^ k) (sym (mul-assoc x (2 ^ d) 2)) in
+    ap (λ y. x * y) weight ∙ sym (mul-assoc x (2 ^ d * 2) (2 ^ k)) ∙ ap (λ y. y * 2 ^ k) (sym (mul-assoc x (2 ^ d) 2)) in
     ap (λ y. (low + y) / 2 ^ k % 2) even ∙ ap (λ y. y % 2) (add-mul-div-right low ((x * 2 ^ d) * 2) (pow-pos k))
     ∙ add-mul-mod-self-right (low / 2 ^ k) (x * 2 ^ d) 2
 

@@ -25,7 +25,7 @@ row-length n side codes = length-map-counting (rowByte n side codes) 0 (rowLengt
 
 -- an entry with one row
 pub entry-one : (n size : ℕ) (form : Form) (codes out lower : List ℕ) → form ≡ OneRow → size ≡ entryLength n form → size ≤ length out
-  → lower ≡ paste out 1 (rowBytes n Lower codes) (rowLength n) → set lower 0 (16 + n) ≡ entryIn form n codes ++ drop size out
+    → lower ≡ paste out 1 (rowBytes n Lower codes) (rowLength n) → set lower 0 (16 + n) ≡ entryIn form n codes ++ drop size out
 entry-one n size TwoRows codes out lower is e l a = absurd (let z : _≡_ {A = ℕ} 0 1 = cc in let y : ⊥ = omega arith in y)
 entry-one n size OneRow codes out lower is e l a =
     ap (λ row. set row 0 (16 + n)) a ∙ heading-paste out (rowBytes n Lower codes) (16 + n) (rowLength n) (row-length n Lower codes) (omega arith)
@@ -33,15 +33,15 @@ entry-one n size OneRow codes out lower is e l a =
 
 -- an entry with two rows
 pub entry-two : (n size start : ℕ) (form : Form) (codes out lower both : List ℕ) → form ≡ TwoRows → size ≡ entryLength n form → start ≡ upperStart n form
-  → size ≤ length out → lower ≡ paste out 1 (rowBytes n Lower codes) (rowLength n) → both ≡ paste lower start (rowBytes n Upper codes) (rowLength n)
-  → set both 0 n ≡ entryIn form n codes ++ drop size out
+    → size ≤ length out → lower ≡ paste out 1 (rowBytes n Lower codes) (rowLength n) → both ≡ paste lower start (rowBytes n Upper codes) (rowLength n)
+    → set both 0 n ≡ entryIn form n codes ++ drop size out
 entry-two n size start OneRow codes out lower both is e s l a b = absurd (let z : _≡_ {A = ℕ} 0 1 = cc in let y : ⊥ = omega arith in y)
 entry-two n size start TwoRows codes out lower both is e s l a b =
     let row = rowLength n in
     let rows = rowsIn TwoRows n codes in
     let whole : both ≡ paste out 1 rows (row + row) =
-        b ∙ ap₂ (λ d k. paste d k (rowBytes n Upper codes) row) a s
-        ∙ paste-paste out 1 (rowBytes n Lower codes) (rowBytes n Upper codes) row row (sym (row-length n Lower codes)) (sym (row-length n Upper codes)) (omega arith) in
+    b ∙ ap₂ (λ d k. paste d k (rowBytes n Upper codes) row) a s
+    ∙ paste-paste out 1 (rowBytes n Lower codes) (rowBytes n Upper codes) row row (sym (row-length n Lower codes)) (sym (row-length n Upper codes)) (omega arith) in
     let long : length rows ≡ row + row = length-append (rowBytes n Lower codes) (rowBytes n Upper codes) ∙ ap₂ _+_ (row-length n Lower codes) (row-length n Upper codes) in
     let sum : 1 + (row + row) ≡ size = omega arith in
     ap (λ r. set r 0 n) whole ∙ heading-paste out rows n (row + row) long (omega arith) ∙ ap (λ k. entryIn TwoRows n codes ++ drop k out) sum

@@ -1,7 +1,6 @@
 -- How many bytes a row of digits takes.
 use Prim.Native.Nat.{ℕ, _+_, _-_, _*_, _/_, _^_, _<_, _≤_}
 use mathlib.Core.Path.{_≡_, ap, _∙_}
-use mathlib.Core.Bool.{cond}
 use native.Mathlib.Omega.{arith}
 use lib.Dec.{ltb}
 use Rattle.std.proofs.shelf.Bits.{pow-add, pow-below}
@@ -20,8 +19,8 @@ whole-bytes n h =
 pub place-in-row : (n i : ℕ) → i < 2 ^ n → i / 8 < rowLength n
 place-in-row n i h =
     cond-both (ltb n 3) 1 (2 ^ n / 8) (λ x. i / 8 < x)
-      (λ e. let small : 2 ^ n < 8 = pow-below n 3 (ltb-true n 3 e) in omega arith)
-      (λ e. omega (arith, whole-bytes n (ltb-false n 3 e)))
+    (λ e. let small : 2 ^ n < 8 = pow-below n 3 (ltb-true n 3 e) in omega arith)
+    (λ e. omega (arith, whole-bytes n (ltb-false n 3 e)))
 
 -- and so within the entry, in either row
 pub lower-inside : (n : ℕ) (form : Form) (i : ℕ) → i < 2 ^ n → 1 + i / 8 < entryLength n form

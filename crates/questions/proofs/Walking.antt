@@ -1,8 +1,8 @@
 -- Walking through a dictionary, entry by entry.
 use Prim.Native.Nat.{ℕ, _+_, _-_, _^_, _<_, _≤_}
-use mathlib.Core.Path.{_≡_, refl, sym, ap, ap₂, subst, _∙_}
-use mathlib.Core.Bool.{true, false, not, cond}
-use mathlib.Core.List.{List, [], _∷_, _++_, map}
+use mathlib.Core.Path.{_≡_, sym, ap, ap₂, subst, _∙_}
+use mathlib.Core.Bool.{true, not, cond}
+use mathlib.Core.List.{List, [], _∷_, _++_}
 use native.Mathlib.Omega.{arith}
 use lib.ListN.{length, getD, take, drop}
 use Rattle.std.specs.Options.{valueOr}
@@ -17,7 +17,7 @@ use Rattle.tables.specs.Tables.{lawfulSize, sized}
 use Rattle.tables.proofs.Passing.{all-pass, when-none, answered-ok}
 use Rattle.questions.specs.declared.listing.Stop.{Stop}
 use Rattle.questions.specs.declared.fault.EntryFault.{EntryFault}
-use Rattle.questions.specs.declared.fault.EntryFault.the-variants.{NoByte, Variables, TooShort}
+use Rattle.questions.specs.declared.fault.EntryFault.the-variants.{Variables, TooShort}
 use Rattle.questions.specs.declared.form.Form.{Form}
 use Rattle.questions.specs.declared.reader.Entry.{Entry}
 use Rattle.questions.specs.Layouts.{variablesOf, formOf, entryLength, code, table}
@@ -25,7 +25,6 @@ use Rattle.questions.specs.Entries.{entryChecks, refusal, reading, rowAfter}
 use Rattle.questions.specs.Dictionaries.{Item, itemAt, anyTable, Holds, ended, stopped, entry}
 use Rattle.questions.proofs.Rows.{entry-some}
 use Rattle.questions.proofs.Answering.{entryOf}
-use Rattle.questions.proofs.Accepting.{lawful-bounds}
 
 -- what an accepted entry says of its sizes
 pub record Sized (file : List ℕ) (at room : ℕ) (e : Entry) : Type 0 where
@@ -39,6 +38,7 @@ sized-entry file at room e h = subst (Sized file at room) (ok .1) here
   where
     ok : (refusal (drop at file) room ≡ None) × (entryOf (drop at file) at ≡ e)
     ok = answered-ok (refusal (drop at file) room) (entryOf (drop at file) at) e h
+
     here : Sized file at room (entryOf (drop at file) at)
     here =
         let n : ℕ = variablesOf (getD (drop at file) 0 0) in
@@ -50,7 +50,7 @@ sized-entry file at room e h = subst (Sized file at room) (ok .1) here
           lawful = not-false (lawfulSize n) (when-none (not (lawfulSize n)) Variables (passed .1 .0));
           fits = ltb-false room (2 ^ n) (short .1);
           onward = omega (arith, entry-some n form);
-          within = λ l. omega (arith, length-drop at file)
+          within = λ l. omega (arith, length-drop at file);
         }
 
 -- a row of 1,024 codes takes any table
@@ -65,7 +65,7 @@ pub passed-none : (file : List ℕ) → Passed file [] 0
 passed-none file items ending h = h
 
 pub passed-more : (file : List ℕ) (done : List Item) (at : ℕ) (e : Entry) → Passed file done at → at < length file → reading file at anyTable ≡ Ok e
-  → Passed file (done ++ itemAt file at e ∷ []) (e .next)
+    → Passed file (done ++ itemAt file at e ∷ []) (e .next)
 passed-more file done at e p l r items ending h =
     subst (λ all. Holds file 0 all ending) (sym (append-assoc done (itemAt file at e ∷ []) items)) (p (itemAt file at e ∷ items) ending (entry at e items ending l r h))
 
@@ -73,13 +73,13 @@ pub passed-all : (file : List ℕ) (done : List Item) (at : ℕ) → Passed file
 passed-all file done at p l = subst (λ all. Holds file 0 all None) (append-nil done) (p [] None (ended at l))
 
 pub passed-stop : (file : List ℕ) (done : List Item) (at : ℕ) (fault : EntryFault) → Passed file done at → at < length file → reading file at anyTable ≡ Err fault
-  → Holds file 0 done (Some (record { at = at; fault = fault }))
+    → Holds file 0 done (Some (record { at = at; fault = fault }))
 passed-stop file done at fault p l r =
     subst (λ all. Holds file 0 all (Some (record { at = at; fault = fault }))) (append-nil done) (p [] (Some (record { at = at; fault = fault })) (stopped at fault l r))
 
 -- the front of a row that an entry was read into is its table
 pub front-codes : (file : List ℕ) (at room : ℕ) (e : Entry) (before row front : List ℕ) → reading file at room ≡ Ok e → row ≡ rowAfter (Ok e) file at before
-  → front ≡ take (valueOr (sized (e .variables)) 0) row → front ≡ itemAt file at e .codes
+    → front ≡ take (valueOr (sized (e .variables)) 0) row → front ≡ itemAt file at e .codes
 front-codes file at room e before row front read after f =
     let n = e .variables in
     let codes = table n (e .form) (drop at file) in

@@ -54,7 +54,7 @@ pub data Holds (file : List ℕ) : ℕ → List Item → Option Stop → Type 0 
   ended : (at : ℕ) → length file ≤ at → Holds file at [] None
   stopped : (at : ℕ) (fault : EntryFault) → at < length file → reading file at anyTable ≡ Err fault → Holds file at [] (Some (record { at = at; fault = fault }))
   entry : (at : ℕ) (e : Entry) (items : List Item) (ending : Option Stop) → at < length file → reading file at anyTable ≡ Ok e
-    → Holds file (e .next) items ending → Holds file at (itemAt file at e ∷ items) ending
+      → Holds file (e .next) items ending → Holds file at (itemAt file at e ∷ items) ending
 
 -- a file holds one list of entries, with one ending
 abbrev pub HoldsOneList : Type 0

@@ -22,7 +22,6 @@ use Rattle.questions.specs.declared.form.Form.the-variants.{TwoRows, OneRow}
 use Rattle.questions.specs.declared.form.Side.{Side}
 use Rattle.questions.specs.declared.form.Side.the-variants.{Lower, Upper}
 use Rattle.questions.specs.declared.layout.Layout.{Layout}
-use Rattle.questions.specs.declared.reader.Entry.{Entry}
 
 -- a code's digit in either row: the lower row is 1 where the code is 1, the upper row is 0 where the code is 0
 abbrev pub digitOf : Side → ℕ → ℕ

@@ -35,7 +35,11 @@ pub impl From<AllocError> for AppendError as AppendMemory {
 }
 
 // Appends the entry of a table to a dictionary, and answers what the reader will answer there.
-pub fn append_entry(dictionary: &mut Vec<u8>, variables: u8, codes: &[u8]) -> Result<Entry, AppendError>
+pub fn append_entry(
+    dictionary: &mut Vec<u8>,
+    variables: u8,
+    codes: &[u8],
+) -> Result<Entry, AppendError>
     ensures { λ r. ⌜ Cases r
         (Appended variables (now (codes .entry)) (vec-items (now (dictionary .entry))) (vec-items (now (dictionary .exit))))
         (λ e. (vec-items (now (dictionary .exit)) ≡ vec-items (now (dictionary .entry))) × NotAppended variables (now (codes .entry)) e) ⌝ }
@@ -44,5 +48,9 @@ pub fn append_entry(dictionary: &mut Vec<u8>, variables: u8, codes: &[u8]) -> Re
     let size = write_entry(variables, codes, &mut entry)?;
     let (_, form) = heading(entry[0]);
     dictionary.extend_from_slice(&entry[0..size])?;
-    Ok(Entry { variables, form, next: dictionary.len() })
+    Ok(Entry {
+        variables,
+        form,
+        next: dictionary.len(),
+    })
 }

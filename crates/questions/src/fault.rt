@@ -1,4 +1,3 @@
-ghost use denote.Ref.{now};
 ghost use Rattle.questions.specs.Faults.{entryNumber, entrySpot, writeNumber, writeSpot};
 use std::fmt;
 use tables::Refusal;
@@ -45,10 +44,19 @@ pub impl fmt::Display for EntryFault as EntryFaultDisplay {
     fn fmt<W: fmt::Write>(&self, f: &mut fmt::Formatter<W>) -> fmt::Result {
         match self {
             EntryFault::NoByte => write!(f, "the file has no byte there"),
-            EntryFault::Variables => write!(f, "the first byte names no number of variables from 1 to 10"),
+            EntryFault::Variables => write!(
+                f,
+                "the first byte names no number of variables from 1 to 10"
+            ),
             EntryFault::TooShort => write!(f, "the file ends within the entry"),
-            EntryFault::SpareDigit { .. } => write!(f, "a digit that stands for no assignment is set in that byte of the entry"),
-            EntryFault::LowerAboveUpper { .. } => write!(f, "the lower row is above the upper row at that assignment"),
+            EntryFault::SpareDigit { .. } => write!(
+                f,
+                "a digit that stands for no assignment is set in that byte of the entry"
+            ),
+            EntryFault::LowerAboveUpper { .. } => write!(
+                f,
+                "the lower row is above the upper row at that assignment"
+            ),
         }
     }
 }

@@ -28,5 +28,11 @@ pub fn layout_of(variables: u8, form: Form) -> Option<Layout>
         Form::TwoRows => 1 + row,
         Form::OneRow => 1,
     };
-    Some(Layout { variables, form, points, upper, length: upper + row })
+    Some(Layout {
+        variables,
+        form,
+        points,
+        upper,
+        length: upper + row,
+    })
 }

@@ -55,8 +55,14 @@ pub fn list_dictionary(heap: Global, file: &[u8]) -> Result<Listing, AllocError>
                 entries.push(Listed { at, entry, counts })?;
                 at = entry.next;
             }
-            Err(fault) => return Ok(Listing { entries, stop: Some(Stop { at, fault }) }),
+            Err(fault) => return Ok(Listing {
+                entries,
+                stop: Some(Stop { at, fault }),
+            }),
         }
     }
-    Ok(Listing { entries, stop: None })
+    Ok(Listing {
+        entries,
+        stop: None,
+    })
 }

@@ -122,5 +122,9 @@ pub fn read_entry(file: &[u8], at: usize, row: &mut [u8]) -> Result<Entry, Entry
     let bytes = &file[at..file.len()];
     let layout = check_entry(bytes, row.len())?;
     fill_row(row, bytes, layout);
-    Ok(Entry { variables: layout.variables, form: layout.form, next: at + layout.length })
+    Ok(Entry {
+        variables: layout.variables,
+        form: layout.form,
+        next: at + layout.length,
+    })
 }

@@ -2,7 +2,6 @@ ghost use mathlib.Core.Path.{_≡_};
 ghost use mathlib.Core.List.{_++_};
 ghost use Rattle.std.specs.Of.Vec.{vec-items};
 ghost use Rattle.std.specs.Results.{Cases};
-ghost use Rattle.std.specs.Vec.{made};
 ghost use Rattle.std.specs.declared.option.Option.the-variants.{None};
 ghost use Rattle.tables.specs.Checks.{first};
 ghost use Rattle.questions.specs.declared.rewrite.RewriteError.the-variants.{Memory};
@@ -80,8 +79,17 @@ pub fn rewrite_dictionary(heap: Global, file: &[u8]) -> Result<Rewriting, Rewrit
         match read_entry(file, at, &mut row) {
             Ok(entry) => {
                 let to = bytes.len();
-                let after = append_table(&mut bytes, entry.variables, table_in(&row, entry.variables))?;
-                entries.push(Rewritten { from: at, to, before: entry.form, after })?;
+                let after = append_table(
+                    &mut bytes,
+                    entry.variables,
+                    table_in(&row, entry.variables),
+                )?;
+                entries.push(Rewritten {
+                    from: at,
+                    to,
+                    before: entry.form,
+                    after,
+                })?;
                 at = entry.next;
             }
             Err(fault) => return Err(RewriteError::Stopped(Stop { at, fault })),

@@ -1,6 +1,6 @@
 -- A loop that writes the values f 0, f 1, .. into a row, from a place on.
-use Prim.Native.Nat.{ℕ, _+_, _<_, _≤_}
-use mathlib.Core.Path.{_≡_, refl, sym, ap, _∙_}
+use Prim.Native.Nat.{ℕ, _+_, _<_}
+use mathlib.Core.Path.{_≡_, sym, _∙_}
 use mathlib.Core.List.{List, _++_, map}
 use native.Mathlib.Omega.{arith}
 use lib.ListN.{length, getD, set, take, drop}
@@ -12,7 +12,7 @@ use Rattle.std.proofs.shelf.Edits.{paste-more, paste-all}
 module _ (f : ℕ → ℕ) (m : ℕ) (row : List ℕ) (start : ℕ) where
   -- one turn: the value y goes to the place p
   pub fill-more : (now : List ℕ) (i p y : ℕ) → now ≡ paste row start (map f (counting 0 m)) i → y ≡ f i → p ≡ start + i
-    → start + i < length row → i < m → set now p y ≡ paste row start (map f (counting 0 m)) (i + 1)
+      → start + i < length row → i < m → set now p y ≡ paste row start (map f (counting 0 m)) (i + 1)
   fill-more now i p y e v at inside below =
       let value : y ≡ getD (map f (counting 0 m)) i 0 = v ∙ sym (getD-map-counting f 0 m i i 0 below (omega arith)) in
       let long : i < length (map f (counting 0 m)) = rw (length-map-counting f 0 m) below in

@@ -38,5 +38,5 @@ counted row =
     record {
       zeros = countBy (λ c. eqb c 0) row;
       ones = countBy (λ c. eqb c 1) row;
-      frees = countBy (λ c. eqb c 2) row
+      frees = countBy (λ c. eqb c 2) row;
     }

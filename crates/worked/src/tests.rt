@@ -62,7 +62,13 @@ fn reader_of_spare_digits_and_crossed_rows() -> Result<(), Fail> {
 }
 
 // A table is refused with a number and a spot, and the output row is left.
-fn unwritten(variables: u8, codes: &[u8], room: usize, number: u8, spot: usize) -> Result<(), Fail> {
+fn unwritten(
+    variables: u8,
+    codes: &[u8],
+    room: usize,
+    number: u8,
+    spot: usize,
+) -> Result<(), Fail> {
     let mut out = [9; 8];
     let room = room.min(8);
     match write_entry(variables, codes, &mut out[0..room]) {
@@ -93,7 +99,9 @@ fn codes_and_bytes_past_the_table_stay() -> Result<(), Fail> {
     check_eq(write_entry(2, &[0, 2, 1, 2, 77], &mut out).ok(), Some(3))?;
     check(out == [0x02, 0x04, 0x0E, 9, 9])?;
     let mut row = [7; 6];
-    let entry = read_entry(&[0xFF, 0x02, 0x04, 0x0E, 0xFF], 1, &mut row).ok().ok_or("refused")?;
+    let entry = read_entry(&[0xFF, 0x02, 0x04, 0x0E, 0xFF], 1, &mut row)
+        .ok()
+        .ok_or("refused")?;
     check(row == [0, 2, 1, 2, 7, 7])?;
     check_eq(entry.variables, 2)?;
     check_eq(entry.form, Form::TwoRows)?;
@@ -114,7 +122,10 @@ fn pattern(highest: u8) -> [u8; 1024] {
 // A table of so many variables is written in so many bytes, and read back behind other bytes.
 fn there_and_back(variables: u8, codes: &[u8], size: usize, form: Form) -> Result<(), Fail> {
     let mut file = [0xFF; 300];
-    check_eq(write_entry(variables, codes, &mut file[5..300]).ok(), Some(size))?;
+    check_eq(
+        write_entry(variables, codes, &mut file[5..300]).ok(),
+        Some(size),
+    )?;
     check(file.iter().skip(size.saturating_add(5)).copied().min() == Some(0xFF))?;
     let mut row = [7; 1024];
     let entry = read_entry(&file, 5, &mut row).ok().ok_or("refused")?;

@@ -1,14 +1,13 @@
 -- The written bytes are added, and their first byte says the form.
-use mathlib.Core.Path.{_≡_, sym, ap, ap₂, _∙_}
+use mathlib.Core.Path.{sym, ap, ap₂, _∙_}
 use mathlib.Core.List.{_++_}
 use native.Mathlib.Nat.{sub-zero}
-use lib.ListN.{length, take, drop, replicate}
+use lib.ListN.{take}
 use Rattle.std.specs.Of.Vec.{vec-items}
 use Rattle.tables.specs.Checks.{first}
 use Rattle.tables.proofs.Passing.{answered-ok}
-use Rattle.questions.specs.declared.reader.Entry.{Entry}
 use Rattle.questions.specs.Layouts.{entryLength}
-use Rattle.questions.specs.Writing.{formFor, entryBytes, writeChecks}
+use Rattle.questions.specs.Writing.{formFor, writeChecks}
 use Rattle.questions.specs.Dictionaries.{anyEntry}
 use Rattle.questions.proofs.Answering.{entryBy}
 use Rattle.questions.proofs.Accepting.{passed-bounds, front-entry, front-form}
@@ -27,5 +26,5 @@ returns c =
     record {
       bytes = bytes ∙ ap (λ k. vec-items (c .args .dictionary .now) ++ take k out) (sub-zero size) ∙ ap (λ xs. vec-items (c .args .dictionary .now) ++ xs) (front-entry n codes _ out (told .out) size (ok .1));
       entry-is = ap₂ (entryBy n) form (c .len .ensures ∙ c .extend-from-slice .last .self .ok .0);
-      passes = ok .0
+      passes = ok .0;
     }

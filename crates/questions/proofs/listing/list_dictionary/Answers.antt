@@ -22,15 +22,14 @@ loop-at-again c =
     let e = c .in-Ok .entry in
     let item = itemAt file at e in
     let codes = front-codes file at anyTable e (c .loop-at .row) (c .read-entry .last .row) (c .table-in .result .now) (accepted c) (c .in-Ok .ensures tt .row) (c .table-in .ensures) in
-    let counts = c .count-codes-counts .ensures ∙ ap counted codes in
-    (
+    let counts = c .count-codes-counts .ensures ∙ ap counted codes in (
       c .read-entry .kept .row ∙ c .loop-at .inv .0,
       sized-entry file at anyTable e (accepted c) .within (c .loop-at-test .taken),
       (
         done .0 ++ item ∷ [],
         c .in-Continue-push .ensures tt .items ∙ ap₂ (λ es n. es ++ record { at = at; entry = e; counts = n } ∷ []) (done .1) counts ∙ sym (map-push listed (done .0) item),
-        passed-more file (done .0) at e (done .2) (c .loop-at-test .taken) (accepted c)
-      )
+        passed-more file (done .0) at e (done .2) (c .loop-at-test .taken) (accepted c),
+      ),
     )
 
 pub loop-at-less : need.loop-at-less

@@ -1,6 +1,6 @@
 -- Each turn writes one code of the table; at the end the row begins with the table.
 use Prim.Native.Nat.{_+_, _^_}
-use mathlib.Core.Path.{_≡_, sym, ap, _∙_}
+use mathlib.Core.Path.{_≡_, ap, _∙_}
 use mathlib.Core.List.{_++_}
 use native.Mathlib.Nat.{zero-add}
 use native.Mathlib.Omega.{arith}
@@ -13,8 +13,8 @@ use Rattle.questions.proofs.reader.fill_row.Needs as need
 pub loop-i-again : need.loop-i-again
 loop-i-again c =
     fill-more (code (c .args .layout .variables) (c .args .layout .form) (c .args .bytes .now)) (2 ^ c .args .layout .variables) (c .args .row .now) 0
-      (c .loop-i .row) (c .loop-i .i) (c .loop-i .i) (c .code-at .result) (c .loop-i .inv) (c .code-at .ensures) (omega arith)
-      (omega (arith, c .pre .row)) (omega (arith, c .args .layout .sized))
+    (c .loop-i .row) (c .loop-i .i) (c .loop-i .i) (c .code-at .result) (c .loop-i .inv) (c .code-at .ensures) (omega arith)
+    (omega (arith, c .pre .row)) (omega (arith, c .args .layout .sized))
 
 pub returns : need.returns
 returns c =

@@ -1,5 +1,5 @@
 -- Both digits lie within the entry, and each turn passes one assignment.
-use Prim.Native.Nat.{ℕ, _^_, _<_}
+use Prim.Native.Nat.{_^_}
 use mathlib.Core.Path.{_≡_, sym, ap}
 use mathlib.Core.Bool.{true, false}
 use native.Mathlib.Omega.{arith}
@@ -23,7 +23,7 @@ returns-then-row-digit c =
     let same = ap (λ start. rowDigit (c .args .bytes .now) start (c .loop-i .i)) (c .args .layout .sized .1) in
     let above : aboveAt (c .args .layout .variables) (c .args .layout .form) (c .args .bytes .now) (c .loop-i .i) ≡ true = grind (arith, tells) in
     sym (lowest-at (aboveAt (c .args .layout .variables) (c .args .layout .form) (c .args .bytes .now)) (2 ^ c .args .layout .variables) (c .loop-i .i) (c .loop-i .inv) above
-      (omega (arith, c .args .layout .sized)))
+    (omega (arith, c .args .layout .sized)))
 
 pub loop-i-again : need.loop-i-again
 loop-i-again c =

@@ -1,6 +1,6 @@
 -- The answer follows the checks of the bytes from the byte number on.
 use Prim.Native.Nat.{_^_}
-use mathlib.Core.Path.{_≡_, refl, sym, ap, _∙_}
+use mathlib.Core.Path.{refl, sym, ap, _∙_}
 use mathlib.Core.List.{_++_}
 use native.Mathlib.Omega.{arith}
 use lib.ListN.{length, drop}
@@ -17,7 +17,7 @@ returns-then-at-file c =
     record {
       answer = sym (ap (λ bytes. readingFrom bytes (c .args .at) (length (c .args .row .now))) (drop-all (c .args .at) (c .args .file .now) (omega arith)));
       row = refl;
-      between = tt
+      between = tt;
     }
 
 pub returns-in-Break-layout : need.returns-in-Break-layout
@@ -25,11 +25,11 @@ returns-in-Break-layout c =
     let p = err-from-errBy (c .from-residual .result) (c .from-residual .ensures .1) in
     let whole = take-rest (c .args .file .now) (c .args .at) in
     rw (p .1, p .2)
-      (record {
-        answer = answer-refused _ _ (c .args .at) (length (c .args .row .now)) (c .in-Break-layout .field-0 .0) whole (c .in-Break-layout .ensures tt);
-        row = refl;
-      between = tt
-      })
+    (record {
+      answer = answer-refused _ _ (c .args .at) (length (c .args .row .now)) (c .in-Break-layout .field-0 .0) whole (c .in-Break-layout .ensures tt);
+      row = refl;
+      between = tt;
+    })
 
 pub returns : need.returns
 returns c =
@@ -39,5 +39,5 @@ returns c =
       answer = answer-accepted _ _ (c .args .at) (length (c .args .row .now)) layout whole (c .in-Continue-layout .ensures tt);
       row = c .fill-row .ensures ∙ ap (λ bytes. table (layout .variables) (layout .form) bytes ++ drop (2 ^ layout .variables) (c .args .row .now)) whole;
       between = accepted-between _ _ (drop (2 ^ layout .variables) (c .args .row .now)) (c .fill-row .last .row) (length (c .args .row .now)) layout whole
-        (c .in-Continue-layout .ensures tt) (c .fill-row .ensures)
+          (c .in-Continue-layout .ensures tt) (c .fill-row .ensures);
     }

@@ -1,5 +1,5 @@
 -- From three variables on there is nothing to look for; below, each turn passes one byte.
-use Prim.Native.Nat.{ℕ, _/_, _^_, _<_, _≤_}
+use Prim.Native.Nat.{_/_, _^_, _≤_}
 use mathlib.Core.Path.{_≡_, sym, ap}
 use mathlib.Core.Bool.{true, false}
 use native.Mathlib.Omega.{arith}
@@ -12,7 +12,7 @@ use Rattle.questions.proofs.reader.spare_digit.Needs as need
 pub returns-then-layout-ge3 : need.returns-then-layout-ge3
 returns-then-layout-ge3 c =
     sym (lowest-none (spareAt (c .args .layout .variables) (c .args .bytes .now)) (c .args .layout .length)
-      (λ k h. let wide : 3 ≤ c .args .layout .variables = omega arith in grind (arith, tells)))
+    (λ k h. let wide : 3 ≤ c .args .layout .variables = omega arith in grind (arith, tells)))
 
 pub returns-then-bytes-k-ne0 : need.returns-then-bytes-k-ne0
 returns-then-bytes-k-ne0 c =

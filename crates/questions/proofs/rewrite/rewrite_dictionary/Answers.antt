@@ -54,8 +54,7 @@ loop-at-again c =
     let bytes = c .in-Continue-after .ensures tt .1 ∙ ap₂ (λ xs cs. xs ++ entryBytes (e .variables) cs) (done .1) codes ∙ written-push (done .0) item in
     let form = c .in-Continue-after .ensures tt .0 ∙ ap (formFor (e .variables)) codes in
     let to = c .len-to .ensures ∙ c .loop-at .bytes .ok .0 ∙ ap length (done .1) ∙ sym (zero-add (length (written (map tableOf (done .0))))) in
-    let gone = ap₂ (λ t f. record { from = at; to = t; before = e .form; after = f }) to form in
-    (
+    let gone = ap₂ (λ t f. record { from = at; to = t; before = e .form; after = f }) to form in (
       c .read-entry .kept .row ∙ c .loop-at .inv .0,
       sized-entry file at anyTable e (accepted c) .within (c .loop-at-test .taken),
       (
@@ -63,8 +62,8 @@ loop-at-again c =
         bytes,
         c .in-Continue-push .ensures tt .items ∙ ap₂ (λ es r. es ++ r ∷ []) (done .2) gone ∙ sym (rewrites-push 0 (done .0) item),
         passed-more file (done .0) at e (done .3) (c .loop-at-test .taken) (accepted c),
-        subst (All Lawful) (sym (map-push tableOf (done .0) item)) (all-push Lawful (map tableOf (done .0)) (tableOf item) (done .4) (lawful-item file at anyTable e (accepted c)))
-      )
+        subst (All Lawful) (sym (map-push tableOf (done .0) item)) (all-push Lawful (map tableOf (done .0)) (tableOf item) (done .4) (lawful-item file at anyTable e (accepted c))),
+      ),
     )
 
 pub returns-in-Err : need.returns-in-Err
@@ -81,12 +80,12 @@ returns c =
     let tables = map tableOf (done .0) in
     record {
       result =
-        record {
-          items = done .0;
-          held = passed-all (c .args .file .now) (done .0) (c .loop-at .at) (done .3) (c .loop-at-test .left);
-          bytes-are = done .1;
-          entries-are = done .2;
-          same-tables = subst (λ bytes. ReadsAs bytes tables) (sym (done .1)) (every-list-reads-back tables (done .4))
-        };
-      lists = every-list-reads-back
+          record {
+            items = done .0;
+            held = passed-all (c .args .file .now) (done .0) (c .loop-at .at) (done .3) (c .loop-at-test .left);
+            bytes-are = done .1;
+            entries-are = done .2;
+            same-tables = subst (λ bytes. ReadsAs bytes tables) (sym (done .1)) (every-list-reads-back tables (done .4));
+          };
+      lists = every-list-reads-back;
     }

@@ -15,12 +15,12 @@ Inv-loop-at l =
     (length (l .row) ≡ 1024)
     × (l .at ≤ length (l .file))
     × (
-        (done : List Item)
-        × (vec-items (l .bytes) ≡ written (map tableOf done))
-        × (vec-items (l .entries) ≡ rewrites 0 done)
-        × Passed (l .file) done (l .at)
-        × All Lawful (map tableOf done)
-      )
+    (done : List Item)
+    × (vec-items (l .bytes) ≡ written (map tableOf done))
+    × (vec-items (l .entries) ≡ rewrites 0 done)
+    × Passed (l .file) done (l .at)
+    × All Lawful (map tableOf done)
+    )
 
 abbrev pub μ-loop-at : given.MeasureT-loop-at
 μ-loop-at l = length (l .file) - l .at

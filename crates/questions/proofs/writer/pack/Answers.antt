@@ -1,6 +1,5 @@
 -- One digit more: its weight is the power of two that the digits so far stay below.
-use Prim.Native.Nat.{ℕ, _+_, _<_, _≤_}
-use mathlib.Core.Path.{_≡_}
+use Prim.Native.Nat.{ℕ, _+_, _<_}
 use native.Mathlib.Omega.{arith}
 use lib.ListN.{getD}
 use Rattle.questions.specs.Writing.{digitOf, packed}

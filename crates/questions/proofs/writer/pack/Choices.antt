@@ -1,5 +1,5 @@
 -- The byte has the digits passed so far, so it is below the next weight.
-use Prim.Native.Nat.{_+_, _^_, _<_}
+use Prim.Native.Nat.{_+_}
 use mathlib.Core.Path.{_≡_}
 use lib.ListN.{getD}
 use Rattle.questions.specs.Writing.{digitOf, packed}

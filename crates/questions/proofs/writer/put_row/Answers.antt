@@ -1,5 +1,5 @@
 -- Each turn writes one byte of the row.
-use Prim.Native.Nat.{ℕ, _+_, _*_, _^_, _<_, _≤_, min}
+use Prim.Native.Nat.{_+_, _*_, _^_, _<_, min}
 use mathlib.Core.Path.{_≡_, ap, _∙_}
 use native.Mathlib.Omega.{arith}
 use lib.ListN.{getD}
@@ -19,6 +19,6 @@ loop-j-again c =
     let inside : j < rowLength n = omega (arith, c .args .layout .sized) in
     let count : c .min .result ≡ min 8 (2 ^ n) = omega (arith, c .args .layout .sized) in
     let byte : c .pack .result ≡ rowByte n (c .args .side) (c .args .codes .now) j =
-        c .pack .ensures ∙ ap (packed (λ k. digitOf (c .args .side) (getD (c .args .codes .now) (8 * j + k) 0))) count in
+    c .pack .ensures ∙ ap (packed (λ k. digitOf (c .args .side) (getD (c .args .codes .now) (8 * j + k) 0))) count in
     fill-more (rowByte n (c .args .side) (c .args .codes .now)) (rowLength n) (c .args .out .now) (c .args .start)
-      (c .loop-j .out) j (c .args .start + j) (c .pack .result) (c .loop-j .inv) byte (omega arith) (omega (arith, c .pre .out)) inside
+    (c .loop-j .out) j (c .args .start + j) (c .pack .result) (c .loop-j .inv) byte (omega arith) (omega (arith, c .pre .out)) inside

@@ -1,6 +1,5 @@
 -- The answer follows the checks of the table; what is written is then read back.
-use mathlib.Core.Path.{_≡_, refl, sym, ap}
-use lib.ListN.{length}
+use mathlib.Core.Path.{refl, sym, ap}
 use Rattle.std.proofs.shelf.Results.{err-from-errBy}
 use Rattle.tables.specs.Checks.{answered}
 use Rattle.questions.specs.Layouts.{entryLength}
@@ -25,5 +24,5 @@ returns c =
     record {
       answer = written-answer n codes out layout ok;
       out = written-out n codes out layout ok (c .put-entry .last .out) (c .put-entry .ensures);
-      reads-back = written-returns n codes out layout ok (c .put-entry .last .out) (c .put-entry .ensures)
+      reads-back = written-returns n codes out layout ok (c .put-entry .last .out) (c .put-entry .ensures);
     }

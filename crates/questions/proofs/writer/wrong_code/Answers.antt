@@ -1,5 +1,5 @@
 -- Each turn passes one code; the first above 2 is the answer.
-use mathlib.Core.Path.{_≡_, sym}
+use mathlib.Core.Path.{sym}
 use Rattle.std.proofs.shelf.Tests.{lt-ltb, le-ltb}
 use Rattle.tables.proofs.Passing.{lowest-more, lowest-at}
 use Rattle.questions.specs.Writing.{wrongAt}
