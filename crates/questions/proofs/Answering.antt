@@ -23,10 +23,12 @@ entryOf bytes at =
     let form : Form = formOf (getD bytes 0 0) in
     entryBy n form (at + entryLength n form)
 
+-- a refusal is answered as it is
 pub answer-refused : (bytes whole : List ℕ) (at room : ℕ) (fault : EntryFault) → bytes ≡ whole → Refused bytes room fault → Err fault ≡ readingFrom whole at room
 answer-refused bytes whole at room fault e h =
     sym (ap (λ r. answered r (entryOf bytes at)) h) ∙ ap (λ bs. readingFrom bs at room) e
 
+-- else the answer is what the layout says
 pub answer-accepted : (bytes whole : List ℕ) (at room : ℕ) (layout : Layout) → bytes ≡ whole → Accepted bytes room layout
     → Ok (record { variables = layout .variables; form = layout .form; next = at + layout .length }) ≡ readingFrom whole at room
 answer-accepted bytes whole at room layout e h =

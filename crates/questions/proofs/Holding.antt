@@ -16,15 +16,19 @@ use Rattle.questions.specs.Dictionaries.{itemAt, anyTable, Holds, ended, stopp
 same-entry : (r : Result Entry EntryFault) (e f : Entry) → r ≡ Ok e → r ≡ Ok f → e ≡ f
 same-entry r e f p q = cc
 
+-- as to a refusal
 same-fault : (r : Result Entry EntryFault) (e f : EntryFault) → r ≡ Err e → r ≡ Err f → e ≡ f
 same-fault r e f p q = cc
 
+-- an answer is no refusal
 not-both : {X : Type 0} (r : Result Entry EntryFault) (e : Entry) (f : EntryFault) → r ≡ Ok e → r ≡ Err f → X
 not-both r e f p q = absurd (let z : _≡_ {A = ℕ} 0 1 = cc in let y : ⊥ = omega arith in y)
 
+-- a byte number is not both past the end and before it
 past : {X : Type 0} (m n : ℕ) → m ≤ n → n < m → X
 past m n l h = absurd (let y : ⊥ = omega arith in y)
 
+-- two lists that a file holds from one byte number on are one
 pub holds-one-list : HoldsOneList
 holds-one-list file at items others ending other (ended _ l) (ended _ m) = (refl, refl)
 holds-one-list file at items others ending other (ended _ l) (stopped _ fault m r) = past (length file) at l m

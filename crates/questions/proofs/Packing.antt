@@ -37,10 +37,12 @@ digit-top m low x small bit =
     ap (λ y. y % 2) e ∙ (omega arith)
 
 module _ (f : ℕ → ℕ) (bits : (k : ℕ) → f k ≤ 1) where
+  -- m digits make a number below 2 ^ m
   pub packed-lt : (m : ℕ) → packed f m < 2 ^ m
   packed-lt zero = omega arith
   packed-lt (suc m) = omega (arith, packed-lt m, pow-suc 2 m, mul-le (f m) (2 ^ m) 1 (2 ^ m) (bits m) (omega arith))
 
+  -- each digit is read off as it was packed
   pub packed-digit : (m k : ℕ) → k < m → digit k (packed f m) ≡ f k
   packed-digit zero k l = absurd (let z : ⊥ = omega arith in z)
   packed-digit (suc m) k l = at (cases-eq k m) (packed-digit m k)
@@ -55,5 +57,6 @@ module _ (f : ℕ → ℕ) (bits : (k : ℕ) → f k ≤ 1) where
       let small : d < 2 ^ 1 = omega (arith, bits m) in
       rw add-one (ap₂ _+_ e (shl-whole d 1 m 8 small (omega arith) ∙ ap (λ x. x * 2 ^ m) v))
 
+  -- a byte has room for eight digits
   pub packed-fits : (m : ℕ) → m ≤ 8 → packed f m < 256
   packed-fits m l = omega (arith, packed-lt m, pow-mono {i = m} {j = 8} l)

@@ -20,6 +20,7 @@ pub heading-paste : (out rows : List ℕ) (first n : ℕ) → length rows ≡ n 
 heading-paste [] rows first n e l = absurd (let z : ⊥ = omega arith in z)
 heading-paste (x ∷ out) rows first n e l = ap (λ r. (first ∷ r) ++ drop (1 + n) (x ∷ out)) (take-all n rows (omega arith))
 
+-- how many bytes a row has
 pub row-length : (n : ℕ) (side : Side) (codes : List ℕ) → length (rowBytes n side codes) ≡ rowLength n
 row-length n side codes = length-map-counting (rowByte n side codes) 0 (rowLength n)
 

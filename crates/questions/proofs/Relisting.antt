@@ -9,7 +9,7 @@ use lib.Dec.{ltb}
 use lib.ListN.{length, getD, take, drop}
 use lib.Pow.{pow-mono}
 use Rattle.std.specs.Iters.{counting}
-use Rattle.std.specs.Options.{mapped}
+use Rattle.std.specs.Options.{mapped, whenTrue}
 use Rattle.std.specs.shelf.Lists.{All}
 use Rattle.std.specs.declared.option.Option.the-variants.{None}
 use Rattle.std.specs.declared.result.Result.the-variants.{Ok}
@@ -18,7 +18,7 @@ use Rattle.std.proofs.shelf.Elements.{all-map, all-getD}
 use Rattle.std.proofs.shelf.Lists.{append-assoc, append-nil, length-append, take-all, map-push, joined-more}
 use Rattle.std.proofs.shelf.Tests.{cond-both, le-ltb, or-from}
 use Rattle.std.proofs.shelf.Ways.{tells}
-use Rattle.tables.specs.Checks.{first, when}
+use Rattle.tables.specs.Checks.{first}
 use Rattle.tables.proofs.Passing.{first-none, lowest-none}
 use Rattle.questions.specs.declared.fault.WriteFault.the-variants.{Variables, TooShort, Code}
 use Rattle.questions.specs.declared.form.Form.{Form}
@@ -37,6 +37,7 @@ all-of : {X : Type 0} (P : X → Type 0) → ((x : X) → P x) → (xs : List X)
 all-of P h [] = tt
 all-of P h (x ∷ xs) = (h x, all-of P h xs)
 
+-- a code that is read is at most 2
 code-le : (low high : ℕ) → codeBy low high ≤ 2
 code-le low high = grind (arith, tells)
 
@@ -56,6 +57,7 @@ row-most n l =
     let most : 2 ^ n ≤ 2 ^ 10 = pow-mono {i = n} {j = 10} l in
     cond-both (ltb n 3) 1 (2 ^ n / 8) (λ x. x ≤ 128) (λ _. omega arith) (λ _. omega arith)
 
+-- so 257 bytes take a first byte and two rows
 entry-most : (n : ℕ) (form : Form) → n ≤ 10 → entryLength n form ≤ anyEntry
 entry-most n TwoRows l = omega (arith, row-most n l)
 entry-most n OneRow l = omega (arith, row-most n l)
@@ -69,9 +71,9 @@ lawful-passes t h =
     let right : (i : ℕ) → i < 2 ^ n → wrongAt codes i ≡ false =
     λ i l. le-ltb 2 (getD codes i 0) (all-getD (λ c. c ≤ 2) codes i 0 (omega (arith, h .1)) (h .2)) in
     first-none (writeChecks n codes anyEntry) (
-      ap (λ b. when (not b) Variables) (h .0),
+      ap (λ b. whenTrue (not b) Variables) (h .0),
       (
-        ap (λ b. when b TooShort) (or-from _ _ (le-ltb (length codes) (2 ^ n) (omega (arith, h .1))) (le-ltb anyEntry (entryLength n (formFor n codes)) most)),
+        ap (λ b. whenTrue b TooShort) (or-from _ _ (le-ltb (length codes) (2 ^ n) (omega (arith, h .1))) (le-ltb anyEntry (entryLength n (formFor n codes)) most)),
         (ap (mapped Code) (lowest-none (wrongAt codes) (2 ^ n) right), tt),
       ),
     )
@@ -88,9 +90,9 @@ first-of t ts h before (items, held, same) =
     let file = before ++ (bytes ++ written ts) in
     let at = length before in
     let fits : 2 ^ n ≤ anyTable = pow-mono {i = n} {j = 10} (lawful-bounds n (h .0) .1) in
-    let back : ReadAs file at anyTable n (take (2 ^ n) (t .codes)) (at + length bytes) =
+    let back : ReadAs file at anyTable n (formFor n (t .codes)) (take (2 ^ n) (t .codes)) (at + length bytes) =
     passed-returns n (t .codes) anyEntry (lawful-passes t h) before (written ts) anyTable fits in
-    let e : Entry = record { variables = n; form = back .form; next = at + length bytes } in
+    let e : Entry = record { variables = n; form = formFor n (t .codes); next = at + length bytes } in
     let long : at < length file = omega (arith, length-append before (bytes ++ written ts)) in
     let rest : Holds file (at + length bytes) items None =
     subst₂ (λ f k. Holds f k items None) (append-assoc before bytes (written ts)) (length-append before bytes) held in
@@ -106,6 +108,7 @@ lists-return : (tables : List Table) → All Lawful tables → (before : List �
 lists-return [] h before = ([], ended (length before) (omega (arith, ap length (append-nil before))), refl)
 lists-return (t ∷ ts) h before = first-of t ts (h .0) before (lists-return ts (h .1) (before ++ entryBytes (t .variables) (t .codes)))
 
+-- from the start of a file
 pub every-list-reads-back : EveryListReadsBack
 every-list-reads-back tables h = lists-return tables h []
 
@@ -119,6 +122,7 @@ rewrites-push to (d ∷ done) item =
     omega (arith, length-append bytes (written (map tableOf done))) in
     ap (λ xs. rewritten to d ∷ xs) (rewrites-push (to + length bytes) done item ∙ ap (λ k. rewrites (to + length bytes) done ++ rewritten k item ∷ []) further)
 
+-- and the bytes grow by that entry
 pub written-push : (done : List Item) (item : Item)
     → written (map tableOf done) ++ entryBytes (item .entry .variables) (item .codes) ≡ written (map tableOf (done ++ item ∷ []))
 written-push done item =

@@ -9,7 +9,7 @@ use native.Mathlib.Nat.{div-eq-of-lt}
 use native.Mathlib.Numerals.{one-add}
 use lib.Dec.{eqb, ltb, leb}
 use lib.ListN.{length, getD, take, drop}
-use Rattle.std.specs.Options.{mapped}
+use Rattle.std.specs.Options.{mapped, whenTrue}
 use Rattle.std.specs.shelf.Lists.{All}
 use Rattle.std.specs.declared.option.Option.the-variants.{None}
 use Rattle.std.specs.declared.result.Result.the-variants.{Ok}
@@ -19,7 +19,7 @@ use Rattle.std.proofs.shelf.Elements.{all-append, all-from-getD, all-getD}
 use Rattle.std.proofs.shelf.Lists.{append-assoc, getD-append-add, getD-append-left, getD-take, length-append, length-take-le, drop-at}
 use Rattle.std.proofs.shelf.Tests.{cases-bool, ltb-true, le-ltb, lt-ltb, le-leb, ne-eqb, and-left, and-right, and-from, or-from}
 use Rattle.std.proofs.shelf.Ways.{tells}
-use Rattle.tables.specs.Checks.{when, first, answered}
+use Rattle.tables.specs.Checks.{first, answered}
 use Rattle.tables.specs.Tables.{digit}
 use Rattle.tables.proofs.Passing.{first-none, lowest-none}
 use Rattle.questions.specs.declared.form.Form.{Form}
@@ -29,7 +29,7 @@ use Rattle.questions.specs.declared.form.Side.the-variants.{Lower, Upper}
 use Rattle.questions.specs.declared.fault.EntryFault.the-variants.{NoByte, Variables, TooShort, SpareDigit, LowerAboveUpper}
 use Rattle.questions.specs.Layouts.{variablesOf, formOf, rowLength, entryLength, rowDigit, lower, upper, codeBy, code, table, spare}
 use Rattle.questions.specs.Entries.{entryChecks, spareAt, aboveAt, readingFrom}
-use Rattle.questions.specs.Writing.{digitOf, rowByte, rowBytes, rowsIn, firstByte, entryIn, ReadsBack}
+use Rattle.questions.specs.Writing.{digitOf, rowByte, rowBytes, rowsIn, firstByte, entryIn, ReadsBackIn}
 use Rattle.questions.proofs.Rows.{place-in-row}
 use Rattle.questions.proofs.Packing.{digit-le, packed-lt, packed-digit}
 use Rattle.questions.proofs.Pasting.{row-length}
@@ -40,6 +40,7 @@ pub heading-variables : (n : ℕ) (form : Form) → n ≤ 10 → variablesOf (fi
 heading-variables n TwoRows l = grind (arith, tells)
 heading-variables n OneRow l = grind (arith, tells)
 
+-- and so for the form
 pub heading-form : (n : ℕ) (form : Form) → n ≤ 10 → formOf (firstByte n form) ≡ form
 heading-form n TwoRows l = ap (λ b. cond b TwoRows OneRow) (lt-ltb n 16 (omega arith))
 heading-form n OneRow l = ap (λ b. cond b TwoRows OneRow) (le-ltb (16 + n) 16 (omega arith))
@@ -88,16 +89,19 @@ byte-whole n side codes j =
       | inr e ↦ and-left (ltb n 3) _ e
     ]
 
+-- nor any byte of a whole row
 row-whole : (n : ℕ) (side : Side) (codes : List ℕ) → All (λ b. spare n b ≡ false) (rowBytes n side codes)
 row-whole n side codes =
     all-from-getD (λ b. spare n b ≡ false) (rowBytes n side codes) 0 (λ j l.
     let inside : j < rowLength n = subst (λ k. j < k) (row-length n side codes) l in
     ap (spare n) (getD-map-counting (rowByte n side codes) 0 (rowLength n) j j 0 inside (omega arith)) ∙ byte-whole n side codes j)
 
+-- nor any byte of an entry behind the first
 pub rows-whole : (n : ℕ) (form : Form) (codes : List ℕ) → All (λ b. spare n b ≡ false) (rowsIn form n codes)
 rows-whole n TwoRows codes = all-append (λ b. spare n b ≡ false) (rowBytes n Lower codes) (rowBytes n Upper codes) (row-whole n Lower codes) (row-whole n Upper codes)
 rows-whole n OneRow codes = row-whole n Lower codes
 
+-- the length of an entry: its first byte and its rows
 pub rows-length : (n : ℕ) (form : Form) (codes : List ℕ) → 1 + length (rowsIn form n codes) ≡ entryLength n form
 rows-length n TwoRows codes =
     omega (arith, length-append (rowBytes n Lower codes) (rowBytes n Upper codes), row-length n Lower codes, row-length n Upper codes)
@@ -110,6 +114,7 @@ lower-read n TwoRows codes after i l =
     ∙ row-read n Lower codes (n ∷ []) (rowBytes n Upper codes ++ after) 1 i refl l
 lower-read n OneRow codes after i l = row-read n Lower codes (firstByte n OneRow ∷ []) after 1 i refl l
 
+-- the upper digit likewise; where one row serves as both, nothing is free
 pub upper-read : (n : ℕ) (form : Form) (codes after : List ℕ) (i : ℕ) → i < 2 ^ n → getD codes i 0 ≤ 2 → (form ≡ OneRow → getD codes i 0 ≡ 2 → ⊥)
     → upper n form (entryIn form n codes ++ after) i ≡ digitOf Upper (getD codes i 0)
 upper-read n TwoRows codes after i l small whole =
@@ -127,6 +132,7 @@ module _ (n : ℕ) (form : Form) (codes : List ℕ) (least : 1 ≤ n) (most : n 
   code-read after i l =
       ap₂ codeBy (lower-read n form codes after i l) (upper-read n form codes after i l (small i l) (λ e. whole e i l)) ∙ code-digits (getD codes i 0) (small i l)
 
+  -- so the table is read as it was
   pub table-returns : (after : List ℕ) → table n form (entryIn form n codes ++ after) ≡ take (2 ^ n) codes
   table-returns after =
       sym (fill-by-all (code n form (entryIn form n codes ++ after)) (take (2 ^ n) codes) (2 ^ n) 0 (length-take-le (2 ^ n) codes long)
@@ -145,16 +151,17 @@ module _ (n : ℕ) (form : Form) (codes : List ℕ) (least : 1 ≤ n) (most : n 
       le-ltb _ _ (subst₂ (λ x y. x ≤ y) (sym (lower-read n form codes after i l)) (sym (upper-read n form codes after i l (small i l) (λ e. whole e i l)))
       (digits-ordered (getD codes i 0)))
 
+  -- the reader refuses nothing
   pub checks-pass : (after : List ℕ) (room : ℕ) → 2 ^ n ≤ room → first (entryChecks n form (entryIn form n codes ++ after) room) ≡ None
   checks-pass after room fits =
       let bytes = entryIn form n codes ++ after in
       let enough : entryLength n form ≤ length bytes = omega (arith, rows-length n form codes, length-append (rowsIn form n codes) after) in
       first-none (entryChecks n form bytes room) (
-        ap (λ b. when b NoByte) (ne-eqb (length bytes) 0 (λ e. let z : ⊥ = omega arith in z)),
+        ap (λ b. whenTrue b NoByte) (ne-eqb (length bytes) 0 (λ e. let z : ⊥ = omega arith in z)),
         (
-          ap (λ b. when (not b) Variables) (and-from (leb 1 n) (leb n 10) (le-leb 1 n least) (le-leb n 10 most)),
+          ap (λ b. whenTrue (not b) Variables) (and-from (leb 1 n) (leb n 10) (le-leb 1 n least) (le-leb n 10 most)),
           (
-            ap (λ b. when b TooShort) (or-from _ _ (le-ltb (length bytes) (entryLength n form) enough) (le-ltb room (2 ^ n) fits)),
+            ap (λ b. whenTrue b TooShort) (or-from _ _ (le-ltb (length bytes) (entryLength n form) enough) (le-ltb room (2 ^ n) fits)),
             (
               ap (mapped SpareDigit) (lowest-none (spareAt n bytes) (entryLength n form) (none-spare after)),
               (ap (mapped LowerAboveUpper) (lowest-none (aboveAt n form bytes) (2 ^ n) (none-above after)), tt),
@@ -171,13 +178,13 @@ module _ (n : ℕ) (form : Form) (codes : List ℕ) (least : 1 ≤ n) (most : n 
       ap₂ (λ m f. answered (first (entryChecks m f bytes room)) (entryBy m f (at + entryLength m f))) (heading-variables n form most) (heading-form n form most)
       ∙ ap (λ r. answered r (entryBy n form (at + entryLength n form))) (checks-pass after room fits)
 
-  pub entry-returns : ReadsBack n codes (entryIn form n codes)
+  -- wherever in a file the entry stands
+  pub entry-returns : ReadsBackIn form n codes (entryIn form n codes)
   entry-returns before after room fits =
       let bytes = entryIn form n codes ++ after in
       let here : drop (length before) (before ++ bytes) ≡ bytes = drop-at before bytes (length before) refl in
       let size : entryLength n form ≡ length (entryIn form n codes) = sym (rows-length n form codes) ∙ one-add (length (rowsIn form n codes)) in
       record {
-        form = form;
         answer =
             ap (λ bs. readingFrom bs (length before) room) here ∙ answer-returns (length before) room after fits
             ∙ ap (λ k. Ok (entryBy n form (length before + k))) size;

@@ -27,6 +27,7 @@ pub lower-inside : (n : ℕ) (form : Form) (i : ℕ) → i < 2 ^ n → 1 + i / 8
 lower-inside n TwoRows i h = let p : i / 8 < rowLength n = place-in-row n i h in omega arith
 lower-inside n OneRow i h = let p : i / 8 < rowLength n = place-in-row n i h in omega arith
 
+-- the upper row likewise
 pub upper-inside : (n : ℕ) (form : Form) (i : ℕ) → i < 2 ^ n → upperStart n form + i / 8 < entryLength n form
 upper-inside n form i h = let p : i / 8 < rowLength n = place-in-row n i h in omega arith
 

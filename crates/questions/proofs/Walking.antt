@@ -14,7 +14,7 @@ use Rattle.std.proofs.shelf.Counted.{length-map-counting}
 use Rattle.std.proofs.shelf.Lists.{append-assoc, append-nil, length-drop, take-at}
 use Rattle.std.proofs.shelf.Tests.{not-false, or-parts, ltb-false}
 use Rattle.tables.specs.Tables.{lawfulSize, sized}
-use Rattle.tables.proofs.Passing.{all-pass, when-none, answered-ok}
+use Rattle.tables.proofs.Passing.{all-pass, whenTrue-none, answered-ok}
 use Rattle.questions.specs.declared.listing.Stop.{Stop}
 use Rattle.questions.specs.declared.fault.EntryFault.{EntryFault}
 use Rattle.questions.specs.declared.fault.EntryFault.the-variants.{Variables, TooShort}
@@ -27,28 +27,27 @@ use Rattle.questions.proofs.Rows.{entry-some}
 use Rattle.questions.proofs.Answering.{entryOf}
 
 -- what an accepted entry says of its sizes
-pub record Sized (file : List ℕ) (at room : ℕ) (e : Entry) : Type 0 where
+pub record Sized (file : List ℕ) (at : ℕ) (e : Entry) : Type 0 where
   pub lawful : lawfulSize (e .variables) ≡ true
-  pub fits : 2 ^ e .variables ≤ room
   pub onward : at < e .next
   pub within : at < length file → e .next ≤ length file
 
-pub sized-entry : (file : List ℕ) (at room : ℕ) (e : Entry) → reading file at room ≡ Ok e → Sized file at room e
-sized-entry file at room e h = subst (Sized file at room) (ok .1) here
+-- by its checks
+pub sized-entry : (file : List ℕ) (at room : ℕ) (e : Entry) → reading file at room ≡ Ok e → Sized file at e
+sized-entry file at room e h = subst (Sized file at) (ok .1) here
   where
     ok : (refusal (drop at file) room ≡ None) × (entryOf (drop at file) at ≡ e)
     ok = answered-ok (refusal (drop at file) room) (entryOf (drop at file) at) e h
 
-    here : Sized file at room (entryOf (drop at file) at)
+    here : Sized file at (entryOf (drop at file) at)
     here =
         let n : ℕ = variablesOf (getD (drop at file) 0 0) in
         let form : Form = formOf (getD (drop at file) 0 0) in
         let passed = all-pass (entryChecks n form (drop at file) room) (ok .0) in
-        let short = or-parts _ _ (when-none _ TooShort (passed .1 .1 .0)) in
+        let short = or-parts _ _ (whenTrue-none _ TooShort (passed .1 .1 .0)) in
         let long : entryLength n form ≤ length (drop at file) = ltb-false (length (drop at file)) (entryLength n form) (short .0) in
         record {
-          lawful = not-false (lawfulSize n) (when-none (not (lawfulSize n)) Variables (passed .1 .0));
-          fits = ltb-false room (2 ^ n) (short .1);
+          lawful = not-false (lawfulSize n) (whenTrue-none (not (lawfulSize n)) Variables (passed .1 .0));
           onward = omega (arith, entry-some n form);
           within = λ l. omega (arith, length-drop at file);
         }
@@ -61,17 +60,17 @@ read-any file at room e read = ap (reading file at) (sym e) ∙ sym read
 abbrev pub Passed : List ℕ → List Item → ℕ → Type 0
 Passed file done at = (items : List Item) (ending : Option Stop) → Holds file at items ending → Holds file 0 (done ++ items) ending
 
-pub passed-none : (file : List ℕ) → Passed file [] 0
-passed-none file items ending h = h
-
+-- one entry more
 pub passed-more : (file : List ℕ) (done : List Item) (at : ℕ) (e : Entry) → Passed file done at → at < length file → reading file at anyTable ≡ Ok e
     → Passed file (done ++ itemAt file at e ∷ []) (e .next)
 passed-more file done at e p l r items ending h =
     subst (λ all. Holds file 0 all ending) (sym (append-assoc done (itemAt file at e ∷ []) items)) (p (itemAt file at e ∷ items) ending (entry at e items ending l r h))
 
+-- at the end of the file
 pub passed-all : (file : List ℕ) (done : List Item) (at : ℕ) → Passed file done at → length file ≤ at → Holds file 0 done None
 passed-all file done at p l = subst (λ all. Holds file 0 all None) (append-nil done) (p [] None (ended at l))
 
+-- at an entry that is refused
 pub passed-stop : (file : List ℕ) (done : List Item) (at : ℕ) (fault : EntryFault) → Passed file done at → at < length file → reading file at anyTable ≡ Err fault
     → Holds file 0 done (Some (record { at = at; fault = fault }))
 passed-stop file done at fault p l r =

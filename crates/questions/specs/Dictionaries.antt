@@ -3,7 +3,7 @@ use Prim.Native.Nat.{ℕ, _+_, _^_, _<_, _≤_}
 use mathlib.Core.Path.{_≡_}
 use mathlib.Core.Bool.{true}
 use mathlib.Core.List.{List, [], _∷_, _++_, map}
-use lib.ListN.{length, drop}
+use lib.ListN.{length, take, drop}
 use Rattle.std.specs.shelf.Lists.{All, joined}
 use Rattle.std.specs.declared.option.Option.{Option}
 use Rattle.std.specs.declared.option.Option.the-variants.{Some, None}
@@ -70,11 +70,13 @@ ReadsAs file tables = (items : List Item) × Holds file 0 items None × (map tab
 abbrev pub written : List Table → List ℕ
 written = joined (λ t. entryBytes (t .variables) (t .codes))
 
--- an entry appended to a file: its bytes are added, and the answer is what the reader gives there
+-- an entry appended to a file: the writer accepts the table, its bytes are added, and the reader finds it there, with the answer that was given
 pub record Appended (n : ℕ) (codes before after : List ℕ) (answer : Entry) : Type 0 where
+  pub passes : first (writeChecks n codes anyEntry) ≡ None
   pub bytes : after ≡ before ++ entryBytes n codes
   pub entry-is : answer ≡ record { variables = n; form = formFor n codes; next = length after }
-  pub passes : first (writeChecks n codes anyEntry) ≡ None
+  pub read-there : reading after (length before) anyTable ≡ Ok answer
+  pub table-there : itemAt after (length before) answer .codes ≡ take (2 ^ n) codes
 
 -- why none is: the writer's own refusal, or want of memory where the writer would accept
 abbrev pub NotAppended : ℕ → List ℕ → AppendError → Type 0

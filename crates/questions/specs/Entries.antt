@@ -5,12 +5,12 @@ use mathlib.Core.Bool.{Bool, not, _&&_, _||_}
 use mathlib.Core.List.{List, [], _∷_, _++_}
 use lib.Dec.{eqb, ltb, leb}
 use lib.ListN.{length, getD, drop}
-use Rattle.std.specs.Options.{mapped}
+use Rattle.std.specs.Options.{mapped, whenTrue}
 use Rattle.std.specs.declared.option.Option.{Option}
 use Rattle.std.specs.declared.option.Option.the-variants.{Some, None}
 use Rattle.std.specs.declared.result.Result.{Result}
 use Rattle.std.specs.declared.result.Result.the-variants.{Ok, Err}
-use Rattle.tables.specs.Checks.{when, first, lowest, answered}
+use Rattle.tables.specs.Checks.{first, lowest, answered}
 use Rattle.tables.specs.Tables.{lawfulSize}
 use Rattle.questions.specs.Layouts.{variablesOf, formOf, entryLength, spare, lower, upper, table}
 use Rattle.questions.specs.declared.fault.EntryFault.{EntryFault}
@@ -30,9 +30,9 @@ aboveAt n form bytes i = ltb (upper n form bytes i) (lower bytes i)
 -- the checks, in their order, over the bytes from the entry's start on and a row of so many codes
 abbrev pub entryChecks : ℕ → Form → List ℕ → ℕ → List (Option EntryFault)
 entryChecks n form bytes room =
-    when (eqb (length bytes) 0) NoByte
-    ∷ when (not (lawfulSize n)) Variables
-    ∷ when (ltb (length bytes) (entryLength n form) || ltb room (2 ^ n)) TooShort
+    whenTrue (eqb (length bytes) 0) NoByte
+    ∷ whenTrue (not (lawfulSize n)) Variables
+    ∷ whenTrue (ltb (length bytes) (entryLength n form) || ltb room (2 ^ n)) TooShort
     ∷ mapped SpareDigit (lowest (entryLength n form) (spareAt n bytes))
     ∷ mapped LowerAboveUpper (lowest (2 ^ n) (aboveAt n form bytes))
     ∷ []

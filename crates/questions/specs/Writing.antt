@@ -6,12 +6,12 @@ use mathlib.Core.List.{List, [], _∷_, _++_, map}
 use lib.Dec.{eqb, ltb}
 use lib.ListN.{length, getD, take, drop}
 use Rattle.std.specs.Iters.{counting}
-use Rattle.std.specs.Options.{isSome, mapped}
+use Rattle.std.specs.Options.{isSome, mapped, whenTrue}
 use Rattle.std.specs.declared.option.Option.{Option}
 use Rattle.std.specs.declared.option.Option.the-variants.{Some, None}
 use Rattle.std.specs.declared.result.Result.{Result}
 use Rattle.std.specs.declared.result.Result.the-variants.{Ok, Err}
-use Rattle.tables.specs.Checks.{when, first, lowest, answered}
+use Rattle.tables.specs.Checks.{first, lowest, answered}
 use Rattle.tables.specs.Tables.{lawfulSize}
 use Rattle.questions.specs.Layouts.{rowLength, entryLength, table}
 use Rattle.questions.specs.Entries.{reading}
@@ -68,8 +68,8 @@ wrongAt codes i = ltb 2 (getD codes i 0)
 
 abbrev pub writeChecks : ℕ → List ℕ → ℕ → List (Option WriteFault)
 writeChecks n codes room =
-    when (not (lawfulSize n)) Variables
-    ∷ when (ltb (length codes) (2 ^ n) || ltb room (entryLength n (formFor n codes))) TooShort
+    whenTrue (not (lawfulSize n)) Variables
+    ∷ whenTrue (ltb (length codes) (2 ^ n) || ltb room (entryLength n (formFor n codes))) TooShort
     ∷ mapped Code (lowest (2 ^ n) (wrongAt codes))
     ∷ []
 
@@ -82,17 +82,19 @@ abbrev pub outAfter : Result ℕ WriteFault → ℕ → List ℕ → List ℕ �
 outAfter (Ok length) n codes out = entryBytes n codes ++ drop length out
 outAfter (Err fault) n codes out = out
 
--- at a byte number of a file the reader finds this table of n variables, and the next entry at this byte number
-pub record ReadAs (file : List ℕ) (at : ℕ) (room : ℕ) (n : ℕ) (codes : List ℕ) (next : ℕ) : Type 0 where
-  pub form : Form
+-- at a byte number of a file the reader finds this table of n variables in this form, and the next entry at this byte number
+pub record ReadAs (file : List ℕ) (at room n : ℕ) (form : Form) (codes : List ℕ) (next : ℕ) : Type 0 where
   pub answer : reading file at room ≡ Ok (record { variables = n; form = form; next = next })
   pub table-read : table n form (drop at file) ≡ codes
 
 -- wherever in a file these bytes stand, they are read as the table that the codes begin with, with the next entry behind them
-abbrev pub ReadsBack : ℕ → List ℕ → List ℕ → Type 0
-ReadsBack n codes bytes =
+abbrev pub ReadsBackIn : Form → ℕ → List ℕ → List ℕ → Type 0
+ReadsBackIn form n codes bytes =
     (before after : List ℕ) (room : ℕ) → 2 ^ n ≤ room
-    → ReadAs (before ++ (bytes ++ after)) (length before) room n (take (2 ^ n) codes) (length before + length bytes)
+    → ReadAs (before ++ (bytes ++ after)) (length before) room n form (take (2 ^ n) codes) (length before + length bytes)
+
+abbrev pub ReadsBack : ℕ → List ℕ → List ℕ → Type 0
+ReadsBack n codes bytes = ReadsBackIn (formFor n codes) n codes bytes
 
 -- the checks end with the layout that the codes ask for, or with the refusal
 abbrev pub Writable : ℕ → List ℕ → ℕ → Layout → Type 0

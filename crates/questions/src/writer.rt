@@ -7,7 +7,7 @@ ghost use Rattle.std.specs.Results.{Cases};
 ghost use Rattle.std.specs.Vec.{made};
 ghost use Rattle.tables.specs.Checks.{lowest};
 ghost use Rattle.questions.specs.Layouts.{rowLength};
-ghost use Rattle.questions.specs.Writing.{digitOf, packed, rowBytes, formFor, wrongAt, entryIn, writing, outAfter, ReadsBack, Writable, Unwritable};
+ghost use Rattle.questions.specs.Writing.{digitOf, packed, rowBytes, freeAt, wrongAt, entryIn, writing, outAfter, ReadsBack, Writable, Unwritable};
 use super::fault::WriteFault;
 use super::form::Form;
 use super::form::Side;
@@ -27,31 +27,28 @@ fn digit_of(code: u8, side: Side) -> u8
     }
 }
 
-// The form that a table asks for: one row exactly when nothing is free.
-fn form_for(codes: &[u8], variables: u8, points: usize) -> Form
-    requires codes { ⌜ points ≤ length (now codes) ⌝ }
-    requires points { ⌜ points ≡ 2 ^ variables ⌝ }
-    ensures { λ r. ⌜ r ≡ formFor variables (now (codes .entry)) ⌝ }
-{
-    for i in 0..points {
-        if codes[i] == 2 {
-            return Form::TwoRows;
-        }
-    }
-    Form::OneRow
+// The first code that is free, and the first that is above 2.
+#[derive(Clone, Copy)]
+struct Found {
+    free: Option<usize>,
+    wrong: Option<usize>,
 }
 
-// The first code that is none.
-fn wrong_code(codes: &[u8], points: usize) -> Option<usize>
+// Looks at each code of a table once.
+fn survey(codes: &[u8], points: usize) -> Found
     requires { ⌜ points ≤ length (now codes) ⌝ }
-    ensures { λ r. ⌜ r ≡ lowest points (wrongAt (now (codes .entry))) ⌝ }
+    ensures { λ r. ⌜ (r .free ≡ lowest points (freeAt (now (codes .entry)))) × (r .wrong ≡ lowest points (wrongAt (now (codes .entry)))) ⌝ }
 {
+    let mut free = None;
+    let mut wrong = None;
     for i in 0..points {
         if codes[i] > 2 {
-            return Some(i);
+            wrong = wrong.or(Some(i));
+        } else if codes[i] == 2 {
+            free = free.or(Some(i));
         }
     }
-    None
+    Found { free, wrong }
 }
 
 // All checks of a table, for an output row of so many bytes.
@@ -64,14 +61,19 @@ fn check_table(variables: u8, codes: &[u8], room: usize) -> Result<Layout, Write
     if codes.len() < points {
         return Err(WriteFault::TooShort);
     }
-    let form = form_for(codes, variables, points);
+    let found = survey(codes, points);
+    let form = if found.free.is_some() {
+        Form::TwoRows
+    } else {
+        Form::OneRow
+    };
     let Some(layout) = layout_of(variables, form) else {
         return Err(WriteFault::Variables);
     };
     if room < layout.length {
         return Err(WriteFault::TooShort);
     }
-    if let Some(index) = wrong_code(codes, points) {
+    if let Some(index) = found.wrong {
         return Err(WriteFault::Code { index });
     }
     Ok(layout)
