@@ -20,6 +20,7 @@ fn obey_line(rt: &LibcRuntime, line: &[u8]) -> io::Result<()> {
     }
 }
 
+// Obeys each line of standard input.
 fn obey_lines(rt: &LibcRuntime) -> io::Result<()> {
     for line in BufReader::new(rt.stdin()).split(rt.alloc(), b'\n') {
         obey_line(rt, line?.as_slice())?;
@@ -27,14 +28,23 @@ fn obey_lines(rt: &LibcRuntime) -> io::Result<()> {
     Ok(())
 }
 
-fn main(rt: LibcRuntime) -> io::Result<()> {
-    let arguments: Vec<String> = env::args(&rt)?.skip(1).collect(rt.alloc())?;
+// Obeys the one command that the arguments are, or the lines of standard input where there is none.
+fn obey_all(rt: &LibcRuntime) -> io::Result<()> {
+    let arguments = match env::args(rt) {
+        Ok(arguments) => arguments,
+        Err(error) => return println!(rt, "bad command: the arguments cannot be read: {error}"),
+    };
+    let arguments: Vec<String> = arguments.skip(1).collect(rt.alloc())?;
     if arguments.is_empty() {
-        return obey_lines(&rt);
+        return obey_lines(rt);
     }
     let mut words = Vec::new(rt.alloc());
     for argument in arguments.iter() {
         words.push(argument.as_str())?;
     }
-    obey(&rt, words.as_slice())
+    obey(rt, words.as_slice())
+}
+
+fn main(rt: LibcRuntime) -> io::Result<()> {
+    rt.report(obey_all(&rt))
 }
