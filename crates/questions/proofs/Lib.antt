@@ -8,3 +8,4 @@ pub mod Accepting
 pub mod Walking
 pub mod Relisting
 pub mod Holding
+pub mod Bytewise

@@ -1,11 +1,10 @@
 -- Lists of tables: each table that was read can be written, and a list that is written one after the other reads back.
-use Prim.Native.Nat.{ℕ, _+_, _/_, _^_, _<_, _≤_}
+use Prim.Native.Nat.{ℕ, _+_, _^_, _<_, _≤_}
 use mathlib.Core.Path.{_≡_, refl, sym, ap, ap₂, subst₂, _∙_}
 use mathlib.Core.Bool.{false, not}
 use mathlib.Core.List.{List, [], _∷_, _++_, map}
 use native.Mathlib.Omega.{arith}
 use native.Mathlib.Nat.{add-zero}
-use lib.Dec.{ltb}
 use lib.ListN.{length, getD, take, drop}
 use lib.Pow.{pow-mono}
 use Rattle.std.specs.Iters.{counting}
@@ -16,7 +15,7 @@ use Rattle.std.specs.declared.result.Result.the-variants.{Ok}
 use Rattle.std.proofs.shelf.Counted.{length-map-counting}
 use Rattle.std.proofs.shelf.Elements.{all-map, all-getD}
 use Rattle.std.proofs.shelf.Lists.{append-assoc, append-nil, length-append, take-all, map-push, joined-more}
-use Rattle.std.proofs.shelf.Tests.{cond-both, le-ltb, or-from}
+use Rattle.std.proofs.shelf.Tests.{le-ltb, or-from}
 use Rattle.std.proofs.shelf.Ways.{tells}
 use Rattle.tables.specs.Checks.{first}
 use Rattle.tables.proofs.Passing.{first-none, lowest-none}
@@ -24,11 +23,12 @@ use Rattle.questions.specs.declared.fault.WriteFault.the-variants.{Variables, 
 use Rattle.questions.specs.declared.form.Form.{Form}
 use Rattle.questions.specs.declared.form.Form.the-variants.{TwoRows, OneRow}
 use Rattle.questions.specs.declared.reader.Entry.{Entry}
-use Rattle.questions.specs.Layouts.{rowLength, entryLength, codeBy, code, lower, upper}
+use Rattle.questions.specs.Layouts.{entryLength, codeBy, code, lower, upper}
 use Rattle.questions.specs.Entries.{reading}
 use Rattle.questions.specs.Writing.{formFor, entryBytes, writeChecks, wrongAt, ReadAs}
 use Rattle.questions.specs.Dictionaries.{Table, Lawful, Item, tableOf, itemAt, anyTable, anyEntry, Holds, ended, entry, written, EveryListReadsBack}
 use Rattle.questions.specs.Rewriting.{rewritten, rewrites}
+use Rattle.questions.proofs.Rows.{row-most}
 use Rattle.questions.proofs.Accepting.{lawful-bounds, passed-returns}
 use Rattle.questions.proofs.Walking.{sized-entry}
 
@@ -51,13 +51,7 @@ lawful-item file at room e read =
       all-map (λ c. c ≤ 2) codes (counting 0 (2 ^ n)) (all-of (λ i. codes i ≤ 2) (λ i. code-le (lower (drop at file) i) (upper n (e .form) (drop at file) i)) (counting 0 (2 ^ n))),
     )
 
--- an output row of 257 bytes takes any entry
-row-most : (n : ℕ) → n ≤ 10 → rowLength n ≤ 128
-row-most n l =
-    let most : 2 ^ n ≤ 2 ^ 10 = pow-mono {i = n} {j = 10} l in
-    cond-both (ltb n 3) 1 (2 ^ n / 8) (λ x. x ≤ 128) (λ _. omega arith) (λ _. omega arith)
-
--- so 257 bytes take a first byte and two rows
+-- an output row of 257 bytes takes any entry: a first byte and two rows
 entry-most : (n : ℕ) (form : Form) → n ≤ 10 → entryLength n form ≤ anyEntry
 entry-most n TwoRows l = omega (arith, row-most n l)
 entry-most n OneRow l = omega (arith, row-most n l)

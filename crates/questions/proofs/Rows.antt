@@ -3,6 +3,7 @@ use Prim.Native.Nat.{ℕ, _+_, _-_, _*_, _/_, _^_, _<_, _≤_}
 use mathlib.Core.Path.{_≡_, ap, _∙_}
 use native.Mathlib.Omega.{arith}
 use lib.Dec.{ltb}
+use lib.Pow.{pow-mono}
 use Rattle.std.proofs.shelf.Bits.{pow-add, pow-below}
 use Rattle.std.proofs.shelf.Tests.{cond-both, ltb-true, ltb-false}
 use Rattle.questions.specs.declared.form.Form.{Form}
@@ -35,3 +36,9 @@ upper-inside n form i h = let p : i / 8 < rowLength n = place-in-row n i h in om
 pub entry-some : (n : ℕ) (form : Form) → 0 < entryLength n form
 entry-some n TwoRows = omega arith
 entry-some n OneRow = omega arith
+
+-- no row takes more than 128 bytes
+pub row-most : (n : ℕ) → n ≤ 10 → rowLength n ≤ 128
+row-most n l =
+    let most : 2 ^ n ≤ 2 ^ 10 = pow-mono {i = n} {j = 10} l in
+    cond-both (ltb n 3) 1 (2 ^ n / 8) (λ x. x ≤ 128) (λ _. omega arith) (λ _. omega arith)

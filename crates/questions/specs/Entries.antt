@@ -1,7 +1,7 @@
 -- How an entry is read: the order of the reader's checks, its answer, and what the row then holds.
-use Prim.Native.Nat.{ℕ, _+_, _^_, _≤_}
+use Prim.Native.Nat.{ℕ, _+_, _^_, _<_, _≤_}
 use mathlib.Core.Path.{_≡_}
-use mathlib.Core.Bool.{Bool, not, _&&_, _||_}
+use mathlib.Core.Bool.{Bool, true, false, not, _&&_, _||_}
 use mathlib.Core.List.{List, [], _∷_, _++_}
 use lib.Dec.{eqb, ltb, leb}
 use lib.ListN.{length, getD, drop}
@@ -26,6 +26,12 @@ spareAt n bytes k = leb 1 k && spare n (getD bytes k 0)
 -- the lower row is above the upper row at the assignment i
 abbrev pub aboveAt : ℕ → Form → List ℕ → ℕ → Bool
 aboveAt n form bytes i = ltb (upper n form bytes i) (lower bytes i)
+
+-- the first assignment of a table at which that is so, among those from one number on and below another
+abbrev pub FirstAbove : ℕ → Form → List ℕ → ℕ → ℕ → Option ℕ → Type 0
+FirstAbove n form bytes from to None = (i : ℕ) → from ≤ i → i < to → i < 2 ^ n → aboveAt n form bytes i ≡ false
+FirstAbove n form bytes from to (Some i) =
+    (from ≤ i) × (i < 2 ^ n) × (aboveAt n form bytes i ≡ true) × ((k : ℕ) → from ≤ k → k < i → aboveAt n form bytes k ≡ false)
 
 -- the checks, in their order, over the bytes from the entry's start on and a row of so many codes
 abbrev pub entryChecks : ℕ → Form → List ℕ → ℕ → List (Option EntryFault)

@@ -1,12 +1,12 @@
 ghost use mathlib.Core.Path.{_≡_};
 ghost use mathlib.Core.List.{_++_};
-ghost use Prim.Native.Nat.{_+_, _/_, _^_, _<_, _≤_};
+ghost use Prim.Native.Nat.{_+_, _*_, _/_, _^_, _<_, _≤_};
 ghost use lib.ListN.{length, drop};
 ghost use Rattle.std.specs.Results.{Cases};
 ghost use Rattle.std.specs.Vec.{made};
 ghost use Rattle.tables.specs.Checks.{lowest};
 ghost use Rattle.questions.specs.Layouts.{rowDigit, code, table, AdmitsBetween};
-ghost use Rattle.questions.specs.Entries.{spareAt, aboveAt, reading, rowAfter, Accepted, Refused};
+ghost use Rattle.questions.specs.Entries.{spareAt, aboveAt, FirstAbove, reading, rowAfter, Accepted, Refused};
 use super::fault::EntryFault;
 use super::form::Form;
 use super::form::FormDebug;
@@ -48,14 +48,32 @@ fn spare_digit(bytes: &[u8], layout: Layout) -> Option<usize>
     None
 }
 
-// The first assignment at which the lower row is above the upper row.
+// The first assignment of one byte of the rows at which the lower row is above the upper row.
+fn above_in_byte(bytes: &[u8], layout: Layout, byte: usize) -> Option<usize>
+    requires bytes { ⌜ layout .length ≤ length (now bytes) ⌝ }
+    requires byte { ⌜ byte < 1024 ⌝ }
+    ensures { λ r. ⌜ FirstAbove (layout .variables) (layout .form) (now (bytes .entry)) (8 * byte) (8 * byte + 8) r ⌝ }
+{
+    for i in 8 * byte..layout.points.min(8 * byte + 8) {
+        if row_digit(bytes, layout.upper, i) < row_digit(bytes, 1, i) {
+            return Some(i);
+        }
+    }
+    None
+}
+
+// The first assignment at which the lower row is above the upper row. A byte whose digits the upper row all has is passed at once.
 fn lower_above_upper(bytes: &[u8], layout: Layout) -> Option<usize>
     requires { ⌜ layout .length ≤ length (now bytes) ⌝ }
     ensures { λ r. ⌜ r ≡ lowest (2 ^ layout .variables) (aboveAt (layout .variables) (layout .form) (now (bytes .entry))) ⌝ }
 {
-    for i in 0..layout.points {
-        if row_digit(bytes, layout.upper, i) < row_digit(bytes, 1, i) {
-            return Some(i);
+    for byte in 0..layout.length - layout.upper {
+        let low = bytes[1 + byte];
+        if low & bytes[layout.upper + byte] != low {
+            let above = above_in_byte(bytes, layout, byte);
+            if above.is_some() {
+                return above;
+            }
         }
     }
     None

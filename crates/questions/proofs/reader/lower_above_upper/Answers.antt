@@ -1,32 +1,37 @@
--- Both digits lie within the entry, and each turn passes one assignment.
-use Prim.Native.Nat.{_^_}
-use mathlib.Core.Path.{_≡_, sym, ap}
-use mathlib.Core.Bool.{true, false}
+-- Each turn passes one byte of the two rows.
+use Prim.Native.Nat.{ℕ, _+_}
+use mathlib.Core.Path.{_≡_, sym, subst, _∙_}
 use native.Mathlib.Omega.{arith}
-use Rattle.std.proofs.shelf.Ways.{tells}
-use Rattle.tables.proofs.Passing.{lowest-more, lowest-at}
-use Rattle.questions.specs.Layouts.{rowDigit}
-use Rattle.questions.specs.Entries.{aboveAt}
-use Rattle.questions.proofs.Rows.{lower-inside, upper-inside}
+use lib.Bits.{bitAnd}
+use lib.ListN.{getD}
+use Rattle.questions.proofs.Rows.{row-most}
+use Rattle.questions.proofs.Bytewise.{none-within, none-looked, found-above, none-above}
 use Rattle.questions.proofs.reader.lower_above_upper.Needs as need
 
-pub row-digit-requires : need.row-digit-requires
-row-digit-requires c κs =
-    omega (arith, c .args .layout .sized, upper-inside (c .args .layout .variables) (c .args .layout .form) (c .loop-i .i) (omega (arith, c .args .layout .sized)))
+pub above-in-byte-above-requires : need.above-in-byte-above-requires
+above-in-byte-above-requires c κs =
+    let most = row-most (c .args .layout .variables) (c .args .layout .lawful .1) in
+    record { bytes = c .pre; byte = omega (arith, c .args .layout .sized) }
 
-pub row-digit-requires-in-loop-i : need.row-digit-requires-in-loop-i
-row-digit-requires-in-loop-i c κs =
-    omega (arith, c .args .layout .sized, lower-inside (c .args .layout .variables) (c .args .layout .form) (c .loop-i .i) (omega (arith, c .args .layout .sized)))
+pub returns-then-is-some : need.returns-then-is-some
+returns-then-is-some c =
+    found-above (c .args .layout .variables) (c .args .layout .form) (c .args .bytes .now) (c .loop-byte .byte) (c .above-in-byte-above .result) (c .loop-byte .inv)
+    (sym (c .is-some .ensures) ∙ c .if-is-some .taken) (c .above-in-byte-above .ensures)
 
-pub returns-then-row-digit : need.returns-then-row-digit
-returns-then-row-digit c =
-    let same = ap (λ start. rowDigit (c .args .bytes .now) start (c .loop-i .i)) (c .args .layout .sized .1) in
-    let above : aboveAt (c .args .layout .variables) (c .args .layout .form) (c .args .bytes .now) (c .loop-i .i) ≡ true = grind (arith, tells) in
-    sym (lowest-at (aboveAt (c .args .layout .variables) (c .args .layout .form) (c .args .bytes .now)) (2 ^ c .args .layout .variables) (c .loop-i .i) (c .loop-i .inv) above
-    (omega (arith, c .args .layout .sized)))
+pub loop-byte-again : need.loop-byte-again
+loop-byte-again c =
+    let n = c .args .layout .variables in
+    let form = c .args .layout .form in
+    let bytes = c .args .bytes .now in
+    let byte : ℕ = c .loop-byte .byte in
+    let low : ℕ = getD bytes (1 + byte) 0 in
+    elim (c .if-low-bytes .came) [
+      | need.then-low-bytes·else-is-some w ↦
+          none-looked n form bytes byte (w .above-in-byte-above .result) (c .loop-byte .inv) (sym (w .is-some .ensures) ∙ w .if-is-some .left) (w .above-in-byte-above .ensures)
+      | need.else-low-bytes w ↦
+          none-within n form bytes byte (c .loop-byte .inv) (subst (λ start. bitAnd low (getD bytes (start + byte) 0) ≡ low) (c .args .layout .sized .1) (w .if-low-bytes .left))
+    ]
 
-pub loop-i-again : need.loop-i-again
-loop-i-again c =
-    let same = ap (λ start. rowDigit (c .args .bytes .now) start (c .loop-i .i)) (c .args .layout .sized .1) in
-    let within : aboveAt (c .args .layout .variables) (c .args .layout .form) (c .args .bytes .now) (c .loop-i .i) ≡ false = grind (arith, tells) in
-    lowest-more (aboveAt (c .args .layout .variables) (c .args .layout .form) (c .args .bytes .now)) (c .loop-i .i) (c .loop-i .inv) within
+pub returns : need.returns
+returns c =
+    none-above (c .args .layout .variables) (c .args .layout .form) (c .args .bytes .now) (c .loop-byte .byte) (c .loop-byte .inv) (omega (arith, c .args .layout .sized))

@@ -1,9 +1,9 @@
--- At no assignment before this one is the lower row above the upper row.
+-- At no assignment of the bytes before this one is the lower row above the upper row.
+use Prim.Native.Nat.{ℕ, _*_, _^_, _<_}
 use mathlib.Core.Path.{_≡_}
-use Rattle.std.specs.declared.option.Option.the-variants.{None}
-use Rattle.tables.specs.Checks.{lowest}
+use mathlib.Core.Bool.{false}
 use Rattle.questions.specs.Entries.{aboveAt}
 use Rattle.questions.proofs.reader.lower_above_upper.Given as given
 
-abbrev pub Inv-loop-i : given.InvT-loop-i
-Inv-loop-i l = lowest (l .i) (aboveAt (l .layout .variables) (l .layout .form) (l .bytes)) ≡ None
+abbrev pub Inv-loop-byte : given.InvT-loop-byte
+Inv-loop-byte l = (k : ℕ) → k < 8 * l .byte → k < 2 ^ l .layout .variables → aboveAt (l .layout .variables) (l .layout .form) (l .bytes) k ≡ false
