@@ -26,7 +26,7 @@ use Rattle.questions.specs.declared.reader.Entry.{Entry}
 use Rattle.questions.specs.Layouts.{entryLength, codeBy, code, lower, upper}
 use Rattle.questions.specs.Entries.{reading}
 use Rattle.questions.specs.Writing.{formFor, entryBytes, writeChecks, wrongAt, ReadAs}
-use Rattle.questions.specs.Dictionaries.{Table, Lawful, Item, tableOf, itemAt, anyTable, anyEntry, Holds, ended, entry, written, EveryListReadsBack}
+use Rattle.questions.specs.Dictionaries.{Table, Lawful, Item, tableOf, itemAt, anyTable, anyEntry, Holds, ended, entry, written, EveryTableReadsBack, EveryListReadsBack}
 use Rattle.questions.specs.Rewriting.{rewritten, rewrites}
 use Rattle.questions.proofs.Rows.{row-most}
 use Rattle.questions.proofs.Accepting.{lawful-bounds, passed-returns}
@@ -71,6 +71,10 @@ lawful-passes t h =
         (ap (mapped Code) (lowest-none (wrongAt codes) (2 ^ n) right), tt),
       ),
     )
+
+-- so what is written of it is read back
+pub every-table-reads-back : EveryTableReadsBack
+every-table-reads-back t h = passed-returns (t .variables) (t .codes) anyEntry (lawful-passes t h)
 
 -- one table more, in front of a list that reads back
 first-of : (t : Table) (ts : List Table) → Lawful t → (before : List ℕ)

@@ -12,7 +12,7 @@ use Rattle.tables.specs.Checks.{first}
 use Rattle.tables.specs.Tables.{lawfulSize, counted}
 use Rattle.questions.specs.Layouts.{table}
 use Rattle.questions.specs.Entries.{reading}
-use Rattle.questions.specs.Writing.{formFor, entryBytes, writeChecks}
+use Rattle.questions.specs.Writing.{formFor, entryBytes, writeChecks, ReadsBack}
 use Rattle.questions.specs.declared.append.AppendError.{AppendError}
 use Rattle.questions.specs.declared.append.AppendError.the-variants.{Refused, Memory}
 use Rattle.questions.specs.declared.listing.Listed.{Listed}
@@ -82,6 +82,10 @@ pub record Appended (n : ℕ) (codes before after : List ℕ) (answer : Entry) :
 abbrev pub NotAppended : ℕ → List ℕ → AppendError → Type 0
 NotAppended n codes (Refused fault) = first (writeChecks n codes anyEntry) ≡ Some fault
 NotAppended n codes Memory = first (writeChecks n codes anyEntry) ≡ None
+
+-- what is written of any table is read back as that table, with the next byte number behind it, wherever in a file it stands
+abbrev pub EveryTableReadsBack : Type 0
+EveryTableReadsBack = (t : Table) → Lawful t → ReadsBack (t .variables) (t .codes) (entryBytes (t .variables) (t .codes))
 
 -- a file made by writing any list of tables reads back as that list, in that order
 abbrev pub EveryListReadsBack : Type 0

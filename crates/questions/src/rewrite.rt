@@ -6,7 +6,7 @@ ghost use Rattle.std.specs.declared.option.Option.the-variants.{None};
 ghost use Rattle.tables.specs.Checks.{first};
 ghost use Rattle.questions.specs.declared.rewrite.RewriteError.the-variants.{Memory};
 ghost use Rattle.questions.specs.Writing.{formFor, entryBytes, writeChecks};
-ghost use Rattle.questions.specs.Dictionaries.{anyEntry, EveryListReadsBack};
+ghost use Rattle.questions.specs.Dictionaries.{anyEntry, EveryTableReadsBack, EveryListReadsBack};
 ghost use Rattle.questions.specs.Rewriting.{RewrittenAs, NotRewritten};
 use super::append::AppendError;
 use super::append::append_entry;
@@ -69,6 +69,7 @@ fn append_table(bytes: &mut Vec<u8>, variables: u8, table: &[u8]) -> Result<Form
 // Writes the tables of a dictionary anew, one after the other.
 pub fn rewrite_dictionary(heap: Global, file: &[u8]) -> Result<Rewriting, RewriteError>
     ensures result { λ r. ⌜ Cases r (λ w. RewrittenAs (now (file .entry)) (vec-items (w .bytes)) (vec-items (w .entries))) (NotRewritten (now (file .entry))) ⌝ }
+    ensures tables { λ _. ⌜ EveryTableReadsBack ⌝ }
     ensures lists { λ _. ⌜ EveryListReadsBack ⌝ }
 {
     let mut row = [0; 1024];

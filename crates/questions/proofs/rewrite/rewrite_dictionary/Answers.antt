@@ -14,7 +14,7 @@ use Rattle.questions.specs.Entries.{reading}
 use Rattle.questions.specs.Writing.{formFor, entryBytes, writeChecks}
 use Rattle.questions.specs.Dictionaries.{anyTable, anyEntry, tableOf, itemAt, Lawful, written, ReadsAs}
 use Rattle.questions.specs.Rewriting.{NotRewritten}
-use Rattle.questions.proofs.Relisting.{lawful-item, lawful-passes, every-list-reads-back, rewrites-push, written-push}
+use Rattle.questions.proofs.Relisting.{lawful-item, lawful-passes, every-table-reads-back, every-list-reads-back, rewrites-push, written-push}
 use Rattle.questions.proofs.Walking.{passed-more, passed-all, passed-stop, front-codes, read-any, sized-entry, onward}
 use Rattle.questions.proofs.rewrite.rewrite_dictionary.Needs as need
 
@@ -30,12 +30,12 @@ append-table-requires c κs =
 pub returns-in-Break-after : need.returns-in-Break-after
 returns-in-Break-after c =
     let p = err-from-errBy (c .from-residual .result) (c .from-residual .ensures .1) in
-    rw (p .1, p .2) (record { result = subst (NotRewritten (c .args .file .now)) (sym (c .in-Break-after .ensures tt)) tt; lists = every-list-reads-back })
+    rw (p .1, p .2) (record { result = subst (NotRewritten (c .args .file .now)) (sym (c .in-Break-after .ensures tt)) tt; tables = every-table-reads-back; lists = every-list-reads-back })
 
 pub returns-in-Break-push : need.returns-in-Break-push
 returns-in-Break-push c =
     let p = err-from-errBy (c .from-residual-in-Break-push .result) (c .from-residual-in-Break-push .ensures .1) in
-    rw (p .1, p .2) (record { result = tt; lists = every-list-reads-back })
+    rw (p .1, p .2) (record { result = tt; tables = every-table-reads-back; lists = every-list-reads-back })
 
 accepted : (c : need.In-Continue-push) → reading (c .args .file .now) (c .loop-at .at) anyTable ≡ Ok (c .in-Ok .entry)
 accepted c = read-any (c .args .file .now) (c .loop-at .at) _ (c .loop-at .inv .0) (c .in-Ok .ensures tt .answer)
@@ -72,7 +72,7 @@ returns-in-Err c =
     let file = c .args .file .now in
     let at = c .loop-at .at in
     let read = read-any file at _ (c .loop-at .inv .0) (c .in-Err .ensures tt .answer) in
-    record { result = (done .0, passed-stop file (done .0) at (c .in-Err .fault) (done .3) (c .loop-at-test .taken) read); lists = every-list-reads-back }
+    record { result = (done .0, passed-stop file (done .0) at (c .in-Err .fault) (done .3) (c .loop-at-test .taken) read); tables = every-table-reads-back; lists = every-list-reads-back }
 
 pub returns : need.returns
 returns c =
@@ -87,5 +87,6 @@ returns c =
             entries-are = done .2;
             same-tables = subst (λ bytes. ReadsAs bytes tables) (sym (done .1)) (every-list-reads-back tables (done .4));
           };
+      tables = every-table-reads-back;
       lists = every-list-reads-back;
     }
