@@ -5,7 +5,7 @@ use crate::command::USAGE;
 use crate::command::parse;
 use crate::grid::print_grid;
 use questions::Entry;
-use questions::EntryFaultDisplay;
+use questions::EntryFault;
 use questions::EntryFaultRefusal;
 use questions::Form;
 use questions::FormPartialEq;
@@ -58,12 +58,27 @@ fn form_name(form: Form) -> &'static str {
     }
 }
 
+// What a refusal means, for a row that takes any table.
+fn meaning(fault: EntryFault) -> &'static str {
+    match fault {
+        EntryFault::NoByte => "the file has no byte there",
+        EntryFault::Variables => "the first byte names no number of variables from 1 to 10",
+        EntryFault::TooShort => "the file ends within the entry",
+        EntryFault::SpareDigit { .. } => {
+            "a digit that stands for no assignment is set in that byte of the entry"
+        }
+        EntryFault::LowerAboveUpper { .. } => {
+            "the lower row is above the upper row at that assignment"
+        }
+    }
+}
+
 // The line of a refusal: number, spot, byte number of the entry, and what it means.
 fn print_refusal(rt: &LibcRuntime, file: &str, stop: Stop) -> io::Result<()> {
     let number = stop.fault.number();
     let spot = stop.fault.spot();
     let at = stop.at;
-    let meaning = stop.fault;
+    let meaning = meaning(stop.fault);
     println!(
         rt,
         "{file}: refused: number {number}, spot {spot}, entry at byte {at}: {meaning}"

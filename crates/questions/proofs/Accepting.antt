@@ -3,7 +3,6 @@ use Prim.Native.Nat.{ℕ, _+_, _^_, _<_, _≤_}
 use mathlib.Core.Path.{_≡_, refl, sym, ap, ap₂, subst, subst₂, _∙_}
 use mathlib.Core.Bool.{true, cond, not}
 use mathlib.Core.List.{List, [], _++_}
-use native.Mathlib.Omega.{arith}
 use lib.Dec.{leb}
 use lib.ListN.{length, getD, take, drop}
 use Rattle.std.specs.Options.{isSome}
@@ -15,17 +14,18 @@ use Rattle.std.proofs.shelf.Tests.{not-false, and-parts, or-parts, leb-true, lt
 use native.Mathlib.Numerals.{one-add}
 use Rattle.tables.specs.Checks.{first, lowest, answered}
 use Rattle.tables.specs.Tables.{lawfulSize}
-use Rattle.tables.proofs.Passing.{all-pass, whenTrue-none, mapped-none, none-below}
+use Rattle.tables.proofs.Passing.{clash, all-pass, whenTrue-none, mapped-none, none-below}
 use Rattle.questions.specs.declared.fault.WriteFault.the-variants.{Variables, TooShort, Code}
 use Rattle.questions.specs.declared.form.Form.the-variants.{TwoRows, OneRow}
 use Rattle.questions.specs.declared.layout.Layout.{Layout}
 use Rattle.questions.specs.Layouts.{formOf, entryLength}
 use Rattle.questions.specs.Writing.{freeAt, wrongAt, formFor, entryIn, rowsIn, entryBytes, writeChecks, writing, ReadAs, ReadsBack, Writable}
+use Rattle.questions.specs.Dictionaries.{anyTable}
 use Rattle.questions.proofs.Returning.{entry-returns, rows-length, heading-form}
 
 -- the one-row form is chosen only where nothing is free
 one-row-none : (o : Option ℕ) → cond (isSome o) TwoRows OneRow ≡ OneRow → o ≡ None
-one-row-none (Some i) e = absurd (let z : _≡_ {A = ℕ} 0 1 = cc in let y : ⊥ = omega arith in y)
+one-row-none (Some i) e = clash (cc)
 one-row-none None e = refl
 
 -- so in the one-row form no assignment is free
@@ -56,13 +56,13 @@ pub entry-length : (n : ℕ) (codes : List ℕ) → length (entryBytes n codes) 
 entry-length n codes = sym (one-add (length (rowsIn (formFor n codes) n codes))) ∙ rows-length n (formFor n codes) codes
 
 -- an entry at the end of a file is read there
-pub last-returns : (n : ℕ) (codes : List ℕ) (room : ℕ) (before whole : List ℕ) → first (writeChecks n codes room) ≡ None → whole ≡ before ++ entryBytes n codes → 2 ^ n ≤ 1024
-    → ReadAs whole (length before) 1024 n (formFor n codes) (take (2 ^ n) codes) (length whole)
+pub last-returns : (n : ℕ) (codes : List ℕ) (room : ℕ) (before whole : List ℕ) → first (writeChecks n codes room) ≡ None → whole ≡ before ++ entryBytes n codes → 2 ^ n ≤ anyTable
+    → ReadAs whole (length before) anyTable n (formFor n codes) (take (2 ^ n) codes) (length whole)
 last-returns n codes room before whole passed e fits =
     let bytes = entryBytes n codes in
     let end : before ++ (bytes ++ []) ≡ whole = ap (λ xs. before ++ xs) (append-nil bytes) ∙ sym e in
     let size : length before + length bytes ≡ length whole = sym (length-append before bytes) ∙ ap length (sym e) in
-    subst₂ (λ file next. ReadAs file (length before) 1024 n (formFor n codes) (take (2 ^ n) codes) next) end size (passed-returns n codes room passed before [] 1024 fits)
+    subst₂ (λ file next. ReadAs file (length before) anyTable n (formFor n codes) (take (2 ^ n) codes) next) end size (passed-returns n codes room passed before [] anyTable fits)
 
 -- an output row that begins with the entry of a table
 module _ (n : ℕ) (codes rest now : List ℕ) (begins : now ≡ entryBytes n codes ++ rest) where

@@ -7,6 +7,7 @@ use lib.ListN.{length}
 use Rattle.std.specs.declared.option.Option.the-variants.{Some}
 use Rattle.std.specs.declared.result.Result.{Result}
 use Rattle.std.specs.declared.result.Result.the-variants.{Ok, Err}
+use Rattle.tables.proofs.Passing.{clash}
 use Rattle.questions.specs.declared.fault.EntryFault.{EntryFault}
 use Rattle.questions.specs.declared.reader.Entry.{Entry}
 use Rattle.questions.specs.Entries.{reading}
@@ -22,7 +23,7 @@ same-fault r e f p q = cc
 
 -- an answer is no refusal
 not-both : {X : Type 0} (r : Result Entry EntryFault) (e : Entry) (f : EntryFault) → r ≡ Ok e → r ≡ Err f → X
-not-both r e f p q = absurd (let z : _≡_ {A = ℕ} 0 1 = cc in let y : ⊥ = omega arith in y)
+not-both r e f p q = clash (cc)
 
 -- a byte number is not both past the end and before it
 past : {X : Type 0} (m n : ℕ) → m ≤ n → n < m → X

@@ -8,6 +8,7 @@ use lib.Seq.{paste}
 use Rattle.std.proofs.shelf.Counted.{length-map-counting}
 use Rattle.std.proofs.shelf.Edits.{paste-paste}
 use Rattle.std.proofs.shelf.Lists.{take-all, length-append}
+use Rattle.tables.proofs.Passing.{clash}
 use Rattle.questions.specs.declared.form.Form.{Form}
 use Rattle.questions.specs.declared.form.Form.the-variants.{TwoRows, OneRow}
 use Rattle.questions.specs.declared.form.Side.{Side}
@@ -27,7 +28,7 @@ row-length n side codes = length-map-counting (rowByte n side codes) 0 (rowLengt
 -- an entry with one row
 pub entry-one : (n size : ℕ) (form : Form) (codes out lower : List ℕ) → form ≡ OneRow → size ≡ entryLength n form → size ≤ length out
     → lower ≡ paste out 1 (rowBytes n Lower codes) (rowLength n) → set lower 0 (16 + n) ≡ entryIn form n codes ++ drop size out
-entry-one n size TwoRows codes out lower is e l a = absurd (let z : _≡_ {A = ℕ} 0 1 = cc in let y : ⊥ = omega arith in y)
+entry-one n size TwoRows codes out lower is e l a = clash (cc)
 entry-one n size OneRow codes out lower is e l a =
     ap (λ row. set row 0 (16 + n)) a ∙ heading-paste out (rowBytes n Lower codes) (16 + n) (rowLength n) (row-length n Lower codes) (omega arith)
     ∙ ap (λ k. entryIn OneRow n codes ++ drop k out) (sym e)
@@ -36,7 +37,7 @@ entry-one n size OneRow codes out lower is e l a =
 pub entry-two : (n size start : ℕ) (form : Form) (codes out lower both : List ℕ) → form ≡ TwoRows → size ≡ entryLength n form → start ≡ upperStart n form
     → size ≤ length out → lower ≡ paste out 1 (rowBytes n Lower codes) (rowLength n) → both ≡ paste lower start (rowBytes n Upper codes) (rowLength n)
     → set both 0 n ≡ entryIn form n codes ++ drop size out
-entry-two n size start OneRow codes out lower both is e s l a b = absurd (let z : _≡_ {A = ℕ} 0 1 = cc in let y : ⊥ = omega arith in y)
+entry-two n size start OneRow codes out lower both is e s l a b = clash (cc)
 entry-two n size start TwoRows codes out lower both is e s l a b =
     let row = rowLength n in
     let rows = rowsIn TwoRows n codes in

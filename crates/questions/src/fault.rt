@@ -1,5 +1,4 @@
 ghost use Rattle.questions.specs.Faults.{entryNumber, entrySpot, writeNumber, writeSpot};
-use std::fmt;
 use tables::Refusal;
 
 // Why the reader refuses an entry.
@@ -36,27 +35,6 @@ pub impl Refusal for EntryFault as EntryFaultRefusal {
             EntryFault::SpareDigit { byte } => *byte,
             EntryFault::LowerAboveUpper { assignment } => *assignment,
             _ => 0,
-        }
-    }
-}
-
-pub impl fmt::Display for EntryFault as EntryFaultDisplay {
-    fn fmt<W: fmt::Write>(&self, f: &mut fmt::Formatter<W>) -> fmt::Result {
-        match self {
-            EntryFault::NoByte => write!(f, "the file has no byte there"),
-            EntryFault::Variables => write!(
-                f,
-                "the first byte names no number of variables from 1 to 10"
-            ),
-            EntryFault::TooShort => write!(f, "the file ends within the entry"),
-            EntryFault::SpareDigit { .. } => write!(
-                f,
-                "a digit that stands for no assignment is set in that byte of the entry"
-            ),
-            EntryFault::LowerAboveUpper { .. } => write!(
-                f,
-                "the lower row is above the upper row at that assignment"
-            ),
         }
     }
 }

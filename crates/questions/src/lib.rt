@@ -13,7 +13,6 @@ pub use append::AppendError;
 pub use append::append_entry;
 pub use fault::EntryFault;
 pub use fault::EntryFaultDebug;
-pub use fault::EntryFaultDisplay;
 pub use fault::EntryFaultPartialEq;
 pub use fault::EntryFaultRefusal;
 pub use fault::WriteFault;

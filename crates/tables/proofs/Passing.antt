@@ -14,9 +14,13 @@ use Rattle.std.specs.declared.result.Result.the-variants.{Ok}
 use Rattle.std.proofs.shelf.Tests.{cases-eq}
 use Rattle.tables.specs.Checks.{first, lowest, answered}
 
+-- two answers of different kinds are not one: `cc` then shows 0 ≡ 1
+pub clash : {X : Type 0} → _≡_ {A = ℕ} 0 1 → X
+clash e = absurd (let z : ⊥ = omega arith in z)
+
 -- checks that do not refuse, one by one
 pub orOther-none : {F : Type 0} (check later : Option F) → orOther check later ≡ None → (check ≡ None) × (later ≡ None)
-orOther-none (Some r) later e = absurd (let z : _≡_ {A = ℕ} 0 1 = cc in let y : ⊥ = omega arith in y)
+orOther-none (Some r) later e = clash (cc)
 orOther-none None later e = (refl, e)
 
 -- and all of a list
@@ -31,17 +35,17 @@ first-none (check ∷ checks) h = ap (λ o. orOther o (first checks)) (h .0) ∙
 
 -- a check without a spot that does not refuse
 pub whenTrue-none : {F : Type 0} (b : Bool) (r : F) → whenTrue b r ≡ None → b ≡ false
-whenTrue-none true r e = absurd (let z : _≡_ {A = ℕ} 0 1 = cc in let y : ⊥ = omega arith in y)
+whenTrue-none true r e = clash (cc)
 whenTrue-none false r e = refl
 
 -- a check with a spot that does not refuse
 pub mapped-none : {X F : Type 0} (f : X → F) (o : Option X) → mapped f o ≡ None → o ≡ None
-mapped-none f (Some x) e = absurd (let z : _≡_ {A = ℕ} 0 1 = cc in let y : ⊥ = omega arith in y)
+mapped-none f (Some x) e = clash (cc)
 mapped-none f None e = refl
 
 -- an answer that is no refusal
 pub answered-ok : {X F : Type 0} (o : Option F) (x y : X) → answered o x ≡ Ok y → (o ≡ None) × (x ≡ y)
-answered-ok (Some r) x y e = absurd (let z : _≡_ {A = ℕ} 0 1 = cc in let w : ⊥ = omega arith in w)
+answered-ok (Some r) x y e = clash (cc)
 answered-ok None x y e = (refl, cc)
 
 -- a check that passes changes nothing

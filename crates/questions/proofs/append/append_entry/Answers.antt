@@ -11,7 +11,7 @@ use Rattle.tables.specs.Checks.{first}
 use Rattle.tables.proofs.Passing.{answered-ok}
 use Rattle.questions.specs.Layouts.{entryLength, table}
 use Rattle.questions.specs.Writing.{formFor, writeChecks}
-use Rattle.questions.specs.Dictionaries.{anyEntry}
+use Rattle.questions.specs.Dictionaries.{anyTable, anyEntry}
 use Rattle.questions.proofs.Answering.{entryBy}
 use Rattle.questions.proofs.Accepting.{passed-bounds, front-entry, front-form, last-returns}
 use Rattle.questions.proofs.append.append_entry.Needs as need
@@ -29,7 +29,7 @@ returns c =
     let grown = bytes ∙ ap (λ k. vec-items (c .args .dictionary .now) ++ take k out) (sub-zero size)
     ∙ ap (λ xs. vec-items (c .args .dictionary .now) ++ xs) (front-entry n codes _ out (told .out) size (ok .1)) in
     let entry-is = ap₂ (entryBy n) form (c .len .ensures ∙ c .extend-from-slice .last .self .ok .0) in
-    let few : 2 ^ n ≤ 1024 = pow-mono {i = n} {j = 10} (passed-bounds n codes anyEntry (ok .0) .1) in
+    let few : 2 ^ n ≤ anyTable = pow-mono {i = n} {j = 10} (passed-bounds n codes anyEntry (ok .0) .1) in
     let there = last-returns n codes anyEntry (vec-items (c .args .dictionary .now)) (vec-items (c .extend-from-slice .last .self)) (ok .0) grown few in
     record {
       passes = ok .0;
