@@ -1,4 +1,6 @@
 // Tables: rows of codes over assignments, rows that ignore a group of variables, gates, stacks over lent cells, and what every refusal reports.
+#![tactic(auto)]
+
 mod counts;
 mod entry;
 mod gate;

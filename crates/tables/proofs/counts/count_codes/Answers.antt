@@ -13,7 +13,7 @@ loop-code-preserved c =
     let zeros = sum_by_more (λ x. cond (eqb x 0) 1 0) row i 0 here in
     let ones = sum_by_more (λ x. cond (eqb x 1) 1 0) row i 0 here in
     let frees = sum_by_more (λ x. cond (eqb x 2) 1 0) row i 0 here in
-    elim c.match-code.branch [ goal.in-0 w ↦ grind (arith, nat_tests) | goal.in-1 w ↦ grind (arith, nat_tests) | goal.in-2 w ↦ grind (arith, nat_tests) | goal.in-default w ↦ grind (arith, nat_tests) ]
+    elim c.match-code.branch [ goal.in-0 w ↦ grind (arith, nat_tests) | goal.in-1 w ↦ grind (arith, nat_tests) | goal.in-2 w ↦ grind (arith, nat_tests) | goal.in_default w ↦ grind (arith, nat_tests) ]
 
 pub returns : goal.returns
 returns c =
