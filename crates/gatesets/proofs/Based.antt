@@ -9,7 +9,7 @@ use Rattle.gatesets.specs.declared.refusal.SplitRefusal.TheVariants.{NoPair}
 use Rattle.gatesets.specs.declared.request.Request.{Request}
 use Rattle.gatesets.specs.Splits.{Giving, Pair, Parts, Rows, Split, early, table_in}
 use Rattle.gatesets.specs.Rules.{only_gate}
-use Rattle.gatesets.proofs.Outcomes.{parted-by, passed-facts}
+use Rattle.gatesets.proofs.Outcomes.{parted_by, passed_facts}
 
 -- a set with one gate has no other number
 only_gate_lem : (gate : List Bool) (k : ℕ) → k < 1 → only_gate gate k ≡ gate
@@ -22,22 +22,22 @@ module _ (gate : List Bool) (gives : Giving) (ask : Request) (lent : Rows) (poin
 
   -- the gate that is asked for
   asked : only_gate gate ask.gate ≡ gate
-  asked = only_gate_lem gate ask.gate (passed-facts 1 ask lent passed).gate_below
+  asked = only_gate_lem gate ask.gate (passed_facts 1 ask lent passed).gate_below
 
   -- the fronts hold two parts of the table
-  pub based-parts : (left right : List ℕ) → gives ask (take (points - 0) lent.table) left right → Parts gate ask (take (points - 0) lent.table) left right
+  pub based_parts : (left right : List ℕ) → gives ask (take (points - 0) lent.table) left right → Parts gate ask (take (points - 0) lent.table) left right
       → Split 1 (only_gate gate ask.gate) gives ask lent (left ++ drop (points - 0) lent.left) (right ++ drop (points - 0) lent.right) (Ok tt)
-  based-parts left right given parts =
+  based_parts left right given parts =
       let whole : Parts gate ask (table_in ask lent.table) left right = subst (λ k. Parts gate ask (take k lent.table) left right) front parts in
-      parted-by 1 ask lent (only_gate gate ask.gate) gives left right _ _ passed (subst (λ k. gives ask (take k lent.table) left right) front given)
+      parted_by 1 ask lent (only_gate gate ask.gate) gives left right _ _ passed (subst (λ k. gives ask (take k lent.table) left right) front given)
       (subst (λ g. Parts g ask (table_in ask lent.table) left right) (sym asked) whole)
       (ap (λ k. left ++ drop k lent.left) (front ∙ sym whole.left_long))
       (ap (λ k. right ++ drop k lent.right) (front ∙ sym whole.right_long))
 
   -- the fronts are as they were, since there is no pair
-  pub based-none : (left right : List ℕ) → (Pair gate ask (take (points - 0) lent.table) → ⊥) → left ≡ take (points - 0) lent.left → right ≡ take (points - 0) lent.right
+  pub based_none : (left right : List ℕ) → (Pair gate ask (take (points - 0) lent.table) → ⊥) → left ≡ take (points - 0) lent.left → right ≡ take (points - 0) lent.right
       → Split 1 (only_gate gate ask.gate) gives ask lent (left ++ drop (points - 0) lent.left) (right ++ drop (points - 0) lent.right) (Err NoPair)
-  based-none left right none a b =
+  based_none left right none a b =
       record {
         reason = inr (passed, refl, subst (λ g. Pair g ask (table_in ask lent.table) → ⊥) (sym asked) (subst (λ k. Pair gate ask (take k lent.table) → ⊥) front none));
         left_same = ap (λ x. x ++ drop (points - 0) lent.left) a ∙ take-append-drop (points - 0) lent.left;

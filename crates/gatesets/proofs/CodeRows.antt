@@ -29,8 +29,8 @@ ruled_parts false a b left right e = (refl, cc, cc)
 
 module _ (n : ℕ) (f : ℕ → ℕ) where
   -- the row has a code for each assignment
-  pub codes-long : length (codes n f) ≡ 2 ^ n
-  codes-long = length-map-range_with_len f 0 (2 ^ n)
+  pub codes_long : length (codes n f) ≡ 2 ^ n
+  codes_long = length-map-range_with_len f 0 (2 ^ n)
 
   -- the code that it was made from
   pub code_at : (i : ℕ) → i < 2 ^ n → code (codes n f) i ≡ f i
@@ -38,11 +38,11 @@ module _ (n : ℕ) (f : ℕ → ℕ) where
 
   -- rows with the same codes are one
   pub codes_same : (g : ℕ → ℕ) → ((i : ℕ) → i < 2 ^ n → f i ≡ g i) → codes n f ≡ codes n g
-  codes_same g h = fill_by_all g (codes n f) (2 ^ n) 0 codes-long (λ i hi. code_at i hi ∙ h i hi)
+  codes_same g h = fill_by_all g (codes n f) (2 ^ n) 0 codes_long (λ i hi. code_at i hi ∙ h i hi)
 
   -- the row ignores a group that the codes ignore
-  pub codes-ignore : (g : ℕ) → SameCleared n g f → Ignores n g (code (codes n f))
-  codes-ignore g h = cleared_ignores n g _ (λ i j hi hj e. code_at i hi ∙ h i j hi hj e ∙ sym (code_at j hj))
+  pub codes_ignore : (g : ℕ) → SameCleared n g f → Ignores n g (code (codes n f))
+  codes_ignore g h = cleared_ignores n g _ (λ i j hi hj e. code_at i hi ∙ h i j hi hj e ∙ sym (code_at j hj))
 
 module _ (op : Bool → Bool → Bool) (ask : Request) (table : List ℕ) (a b : ℕ → ℕ) where
   -- the number of variables
@@ -50,23 +50,23 @@ module _ (op : Bool → Bool → Bool) (ask : Request) (table : List ℕ) (a b :
   n = ask.variables
 
   -- two rows are parts of a table by what is shown of the codes that they are made from
-  pub codes-parts : ((i : ℕ) → i < 2 ^ n → a i ≤ 2) → ((i : ℕ) → i < 2 ^ n → b i ≤ 2)
+  pub codes_parts : ((i : ℕ) → i < 2 ^ n → a i ≤ 2) → ((i : ℕ) → i < 2 ^ n → b i ≤ 2)
       → SameCleared n ask.right a → SameCleared n ask.left b
       → ((i : ℕ) → i < 2 ^ n → (u v : Bool) → Allows (a i) u → Allows (b i) v → Allows (code table i) (op u v))
       → ((k : ℕ) → k < n → SameCleared n (2 ^ k) (code table) → SameCleared n (2 ^ k) a)
       → ((k : ℕ) → k < n → SameCleared n (2 ^ k) (code table) → SameCleared n (2 ^ k) b)
       → Parts (gate_of op) ask table (codes n a) (codes n b)
-  codes-parts a-codes b-codes a-ignores b-ignores join a-needs b-needs =
+  codes_parts a_codes b_codes a_ignores b_ignores join a_needs b_needs =
       record {
-        left_long = codes-long n a;
-        right_long = codes-long n b;
-        left_codes = λ i hi. subst (λ c. c ≤ 2) (sym (code_at n a i hi)) (a-codes i hi);
-        right_codes = λ i hi. subst (λ c. c ≤ 2) (sym (code_at n b i hi)) (b-codes i hi);
-        left_ignores = codes-ignore n a ask.right a-ignores;
-        right_ignores = codes-ignore n b ask.left b-ignores;
+        left_long = codes_long n a;
+        right_long = codes_long n b;
+        left_codes = λ i hi. subst (λ c. c ≤ 2) (sym (code_at n a i hi)) (a_codes i hi);
+        right_codes = λ i hi. subst (λ c. c ≤ 2) (sym (code_at n b i hi)) (b_codes i hi);
+        left_ignores = codes_ignore n a ask.right a_ignores;
+        right_ignores = codes_ignore n b ask.left b_ignores;
         joins = λ i hi u v p q.
             subst (Allows (code table i)) (sym (joined_of op u v))
             (join i hi u v (subst (λ c. Allows c u) (code_at n a i hi) p) (subst (λ c. Allows c v) (code_at n b i hi) q));
-        left_needs = λ k kn h. codes-ignore n a (2 ^ k) (a-needs k kn (ignores_cleared n (2 ^ k) (code table) h));
-        right_needs = λ k kn h. codes-ignore n b (2 ^ k) (b-needs k kn (ignores_cleared n (2 ^ k) (code table) h));
+        left_needs = λ k kn h. codes_ignore n a (2 ^ k) (a_needs k kn (ignores_cleared n (2 ^ k) (code table) h));
+        right_needs = λ k kn h. codes_ignore n b (2 ^ k) (b_needs k kn (ignores_cleared n (2 ^ k) (code table) h));
       }

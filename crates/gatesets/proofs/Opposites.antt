@@ -11,20 +11,20 @@ use Rattle.gatesets.specs.Derived.{OppositeGives, complemented_to, opposed, oppo
 use Rattle.gatesets.specs.Splits.{Giving, Pair, Parted, Parts, Refused, Rows, code, early, rows, table_in}
 use Rattle.gatesets.proofs.CodeRows.{joined_of}
 use Rattle.gatesets.proofs.Complements.{code-complement, complement-laid, complement_small, complements_twice, ignores_complement, ignores_not, row_allows, row_allows_back, take_complemented}
-use Rattle.gatesets.proofs.Outcomes.{parted-by, passed-facts}
-use Rattle.gatesets.proofs.Transfers.{early_complemented, points_known, refused-from}
+use Rattle.gatesets.proofs.Outcomes.{parted_by, passed_facts}
+use Rattle.gatesets.proofs.Transfers.{early_complemented, points_known, refused_from}
 
 module _ (gate : List Bool) (ask : Request) (table : List ℕ) (long : length table ≡ 2 ^ ask.variables) where
   abbrev n : ℕ
   n = ask.variables
 
   -- the opposite gate, joined
-  opposed-joins : (u v : Bool) → joined (opposed gate) u v ≡ not (joined gate (not u) (not v))
-  opposed-joins = joined_of (λ a b. not (joined gate (not a) (not b)))
+  opposed_joins : (u v : Bool) → joined (opposed gate) u v ≡ not (joined gate (not u) (not v))
+  opposed_joins = joined_of (λ a b. not (joined gate (not a) (not b)))
 
   -- a pair for the opposite gate, complemented, is one for the gate and the complemented table
-  pub opposite-pair : Pair (opposed gate) ask table → Pair gate ask (map complement table)
-  opposite-pair p =
+  pub opposite_pair : Pair (opposed gate) ask table → Pair gate ask (map complement table)
+  opposite_pair p =
       record {
         first = λ i. not (p.first i);
         second = λ i. not (p.second i);
@@ -34,7 +34,7 @@ module _ (gate : List Bool) (ask : Request) (table : List ℕ) (long : length ta
             let u = p.first i in
             let v = p.second i in
             let inside : i < length table = omega arith in
-            let twice : not (joined (opposed gate) u v) ≡ joined gate (not u) (not v) = ap not (opposed-joins u v) ∙ not-not _ in
+            let twice : not (joined (opposed gate) u v) ≡ joined gate (not u) (not v) = ap not (opposed_joins u v) ∙ not-not _ in
             subst (Allows (code (map complement table) i)) twice (row_allows table i (joined (opposed gate) u v) inside (p.admitted i hi));
       }
 
@@ -43,23 +43,23 @@ module _ (gate : List Bool) (ask : Request) (table : List ℕ) (long : length ta
       → Parts (opposed gate) ask table (map complement left) (map complement right)
   opposite_parts left right p =
       let left_at : (i : ℕ) → i < 2 ^ n → i < length left = λ i hi. let l = p.left_long in omega arith in
-      let right-at : (i : ℕ) → i < 2 ^ n → i < length right = λ i hi. let l = p.right_long in omega arith in
-      let left-room : 2 ^ n ≤ length left = let l = p.left_long in omega arith in
-      let right-room : 2 ^ n ≤ length right = let l = p.right_long in omega arith in
+      let right_at : (i : ℕ) → i < 2 ^ n → i < length right = λ i hi. let l = p.right_long in omega arith in
+      let left_room : 2 ^ n ≤ length left = let l = p.left_long in omega arith in
+      let right_room : 2 ^ n ≤ length right = let l = p.right_long in omega arith in
       let table_room : 2 ^ n ≤ length table = omega arith in
       record {
         left_long = length-map left complement ∙ p.left_long;
         right_long = length-map right complement ∙ p.right_long;
         left_codes = λ i hi. subst (λ c. c ≤ 2) (sym (code-complement left i (left_at i hi))) (complement_small (code left i) (p.left_codes i hi));
-        right_codes = λ i hi. subst (λ c. c ≤ 2) (sym (code-complement right i (right-at i hi))) (complement_small (code right i) (p.right_codes i hi));
-        left_ignores = ignores_complement n ask.right left left-room p.left_ignores;
-        right_ignores = ignores_complement n ask.left right right-room p.right_ignores;
+        right_codes = λ i hi. subst (λ c. c ≤ 2) (sym (code-complement right i (right_at i hi))) (complement_small (code right i) (p.right_codes i hi));
+        left_ignores = ignores_complement n ask.right left left_room p.left_ignores;
+        right_ignores = ignores_complement n ask.left right right_room p.right_ignores;
         joins = λ i hi u v a b.
-            subst (Allows (code table i)) (sym (opposed-joins u v))
+            subst (Allows (code table i)) (sym (opposed_joins u v))
             (row_allows_back table i (joined gate (not u) (not v)) (omega arith)
-            (p.joins i hi (not u) (not v) (row_allows_back left i u (left_at i hi) a) (row_allows_back right i v (right-at i hi) b)));
-        left_needs = λ k kn h. ignores_complement n (2 ^ k) left left-room (p.left_needs k kn (ignores_complement n (2 ^ k) table table_room h));
-        right_needs = λ k kn h. ignores_complement n (2 ^ k) right right-room (p.right_needs k kn (ignores_complement n (2 ^ k) table table_room h));
+            (p.joins i hi (not u) (not v) (row_allows_back left i u (left_at i hi) a) (row_allows_back right i v (right_at i hi) b)));
+        left_needs = λ k kn h. ignores_complement n (2 ^ k) left left_room (p.left_needs k kn (ignores_complement n (2 ^ k) table table_room h));
+        right_needs = λ k kn h. ignores_complement n (2 ^ k) right right_room (p.right_needs k kn (ignores_complement n (2 ^ k) table table_room h));
       }
 
 module _ (count : ℕ) (answering : ℕ → List Bool) (gives : Giving) (ask : Request) (t a b v w : List ℕ) where
@@ -86,51 +86,51 @@ module _ (count : ℕ) (answering : ℕ → List Bool) (gives : Giving) (ask : R
   table = table_in ask t
 
   -- where the checks pass, the gate number is one of the set, and the table has a code for each assignment
-  gate-is : early count ask below ≡ None → above ≡ opposed gate
-  gate-is e = cond-true _ _ _ (lt-ltb _ _ (passed-facts count ask below e).gate_below)
+  gate_is : early count ask below ≡ None → above ≡ opposed gate
+  gate_is e = cond-true _ _ _ (lt-ltb _ _ (passed_facts count ask below e).gate_below)
 
   -- then the table has a code for each assignment
-  table-long : early count ask below ≡ None → length table ≡ 2 ^ ask.variables
-  table-long e = length-take-le (2 ^ ask.variables) t (passed-facts count ask lent (sym (early_complemented count ask front t a b v w) ∙ e)).table_room
+  table_long : early count ask below ≡ None → length table ≡ 2 ^ ask.variables
+  table_long e = length-take-le (2 ^ ask.variables) t (passed_facts count ask lent (sym (early_complemented count ask front t a b v w) ∙ e)).table_room
 
   -- and the set below gets its complement
   table_below : early count ask below ≡ None → table_in ask (complemented_to front t) ≡ map complement table
   table_below e = ap (λ k. table_in ask (complemented_to k t)) (points_known count ask below e) ∙ take_complemented (2 ^ ask.variables) t
 
   -- the set below refuses the complemented table
-  pub opposite-refused : (t' left-row right-row : List ℕ) (refusal : SplitRefusal) → t' ≡ complemented_to front t
-      → Refused count gate ask (rows t' a b v w) left-row right-row refusal → Refused count above ask lent left-row right-row refusal
-  opposite-refused t' left-row right-row refusal complemented p =
-      refused-from count count gate above ask ask below lent left-row right-row refusal (early_complemented count ask front t a b v w) refl refl
+  pub opposite_refused : (t' left_row right_row : List ℕ) (refusal : SplitRefusal) → t' ≡ complemented_to front t
+      → Refused count gate ask (rows t' a b v w) left_row right_row refusal → Refused count above ask lent left_row right_row refusal
+  opposite_refused t' left_row right_row refusal complemented p =
+      refused_from count count gate above ask ask below lent left_row right_row refusal (early_complemented count ask front t a b v w) refl refl
       (λ e q. subst (Pair gate ask) (sym (table_below e))
-      (opposite-pair gate ask table (table-long e) (subst (λ g. Pair g ask table) (gate-is e) q)))
-      (subst (λ row. Refused count gate ask (rows row a b v w) left-row right-row refusal) complemented p)
+      (opposite_pair gate ask table (table_long e) (subst (λ g. Pair g ask table) (gate_is e) q)))
+      (subst (λ row. Refused count gate ask (rows row a b v w) left_row right_row refusal) complemented p)
 
   -- the set below gives parts of the complemented table, and they are complemented
-  parted-above : (left-row right-row : List ℕ) → Parted count gate gives ask below left-row right-row
-      → Parted count above (OppositeGives gives) ask lent (complemented_to (2 ^ ask.variables) left-row) (complemented_to (2 ^ ask.variables) right-row)
-  parted-above left-row right-row p =
+  parted_above : (left_row right_row : List ℕ) → Parted count gate gives ask below left_row right_row
+      → Parted count above (OppositeGives gives) ask lent (complemented_to (2 ^ ask.variables) left_row) (complemented_to (2 ^ ask.variables) right_row)
+  parted_above left_row right_row p =
       let m = 2 ^ ask.variables in
       let left = p.left in
       let right = p.right in
       let parts : Parts gate ask (map complement table) left right = subst (λ s. Parts gate ask s left right) (table_below p.passed) p.parts in
       let given : gives ask (map complement table) left right = subst (λ s. gives ask s left right) (table_below p.passed) p.given in
-      parted-by count ask lent above (OppositeGives gives) (map complement left) (map complement right) _ _ (sym (early_complemented count ask front t a b v w) ∙ p.passed)
+      parted_by count ask lent above (OppositeGives gives) (map complement left) (map complement right) _ _ (sym (early_complemented count ask front t a b v w) ∙ p.passed)
       (subst (λ x. gives ask (map complement table) x (map complement (map complement right))) (sym (complements_twice left))
       (subst (gives ask (map complement table) left) (sym (complements_twice right)) given))
-      (subst (λ g. Parts g ask table (map complement left) (map complement right)) (sym (gate-is p.passed))
-      (opposite_parts gate ask table (table-long p.passed) left right parts))
+      (subst (λ g. Parts g ask table (map complement left) (map complement right)) (sym (gate_is p.passed))
+      (opposite_parts gate ask table (table_long p.passed) left right parts))
       (ap (complemented_to m) p.left_holds ∙ complement-laid left a m parts.left_long)
       (ap (complemented_to m) p.right_holds ∙ complement-laid right b m parts.right_long)
 
   -- the same, of the rows that the code has
-  pub opposite-parted : (t' left-row right-row left-row' right-row' : List ℕ) → t' ≡ complemented_to front t
-      → left-row' ≡ complemented_to front left-row → right-row' ≡ complemented_to front right-row
-      → Parted count gate gives ask (rows t' a b v w) left-row right-row
-      → Parted count above (OppositeGives gives) ask lent left-row' right-row'
-  opposite-parted t' left-row right-row left-row' right-row' complemented left-now right-now p =
-      let q : Parted count gate gives ask below left-row right-row =
-      subst (λ row. Parted count gate gives ask (rows row a b v w) left-row right-row) complemented p in
+  pub opposite_parted : (t' left_row right_row left_row' right_row' : List ℕ) → t' ≡ complemented_to front t
+      → left_row' ≡ complemented_to front left_row → right_row' ≡ complemented_to front right_row
+      → Parted count gate gives ask (rows t' a b v w) left_row right_row
+      → Parted count above (OppositeGives gives) ask lent left_row' right_row'
+  opposite_parted t' left_row right_row left_row' right_row' complemented left_now right_now p =
+      let q : Parted count gate gives ask below left_row right_row =
+      subst (λ row. Parted count gate gives ask (rows row a b v w) left_row right_row) complemented p in
       let known = points_known count ask below q.passed in
-      subst (λ x. Parted count above (OppositeGives gives) ask lent x right-row') (sym (left-now ∙ ap (λ m. complemented_to m left-row) known))
-      (subst (Parted count above (OppositeGives gives) ask lent _) (sym (right-now ∙ ap (λ m. complemented_to m right-row) known)) (parted-above left-row right-row q))
+      subst (λ x. Parted count above (OppositeGives gives) ask lent x right_row') (sym (left_now ∙ ap (λ m. complemented_to m left_row) known))
+      (subst (Parted count above (OppositeGives gives) ask lent _) (sym (right_now ∙ ap (λ m. complemented_to m right_row) known)) (parted_above left_row right_row q))

@@ -36,8 +36,8 @@ not_refused b refusal e = not_false b (then_some-none (not b) refusal e)
 
 module _ (count : ℕ) (ask : Request) (lent : Rows) where
   -- they follow where no check refuses
-  pub passed-facts : early count ask lent ≡ None → Passed count ask lent
-  passed-facts e =
+  pub passed_facts : early count ask lent ≡ None → Passed count ask lent
+  passed_facts e =
       let each = all_pass (checks count ask lent) e in
       record {
         size_lawful = not_refused (lawful_size ask.variables) Variables each.0;
@@ -47,10 +47,10 @@ module _ (count : ℕ) (ask : Request) (lent : Rows) where
 
   module _ (gate : List Bool) (gives : Giving) where
     -- a split that is answered with parts
-    pub parted-by : (left right left-row right-row : List ℕ) → early count ask lent ≡ None → gives ask (table_in ask lent.table) left right
-        → Parts gate ask (table_in ask lent.table) left right → left-row ≡ laid left lent.left → right-row ≡ laid right lent.right
-        → Split count gate gives ask lent left-row right-row (Ok tt)
-    parted-by left right left-row right-row e given parts left_holds right_holds =
+    pub parted_by : (left right left_row right_row : List ℕ) → early count ask lent ≡ None → gives ask (table_in ask lent.table) left right
+        → Parts gate ask (table_in ask lent.table) left right → left_row ≡ laid left lent.left → right_row ≡ laid right lent.right
+        → Split count gate gives ask lent left_row right_row (Ok tt)
+    parted_by left right left_row right_row e given parts left_holds right_holds =
         record {
           passed = e;
           left = left;

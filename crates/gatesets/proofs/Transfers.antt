@@ -12,7 +12,7 @@ use Rattle.gatesets.specs.declared.request.Request.{Request}
 use Rattle.gatesets.specs.Derived.{complemented_to, renumbered}
 use Rattle.gatesets.specs.Splits.{Pair, Refused, Rows, code, early, roomy, rows, table_in}
 use Rattle.gatesets.proofs.Complements.{length_complemented, wrong_same}
-use Rattle.gatesets.proofs.Outcomes.{passed-facts}
+use Rattle.gatesets.proofs.Outcomes.{passed_facts}
 
 -- what the early checks say, by the tests that may differ between a set and one below it
 abbrev checked : Request → Bool → Option ℕ → Bool → Option SplitRefusal
@@ -47,16 +47,16 @@ early_complemented count ask k t a b v w =
 -- where the checks pass, the number of assignments is known
 pub points_known : (count : ℕ) (ask : Request) (lent : Rows) → early count ask lent ≡ None → unwrap_or (sized ask.variables) 0 ≡ 2 ^ ask.variables
 points_known count ask lent e =
-    ap (λ o. unwrap_or o 0) (cond-true (lawful_size ask.variables) (Some (2 ^ ask.variables)) None (passed-facts count ask lent e).size_lawful)
+    ap (λ o. unwrap_or o 0) (cond-true (lawful_size ask.variables) (Some (2 ^ ask.variables)) None (passed_facts count ask lent e).size_lawful)
 
 module _ (count count' : ℕ) (gate gate' : List Bool) (ask ask' : Request) (lent lent' : Rows) where
   -- a refusal of the set below is one of the derived set, where their checks say the same, the part rows are the same,
   -- and where the checks pass there is a pair below for each above
-  pub refused-from : (left-row right-row : List ℕ) (refusal : SplitRefusal) → early count ask lent ≡ early count' ask' lent'
+  pub refused_from : (left_row right_row : List ℕ) (refusal : SplitRefusal) → early count ask lent ≡ early count' ask' lent'
       → lent.left ≡ lent'.left → lent.right ≡ lent'.right
       → (early count ask lent ≡ None → Pair gate' ask' (table_in ask' lent'.table) → Pair gate ask (table_in ask lent.table))
-      → Refused count gate ask lent left-row right-row refusal → Refused count' gate' ask' lent' left-row right-row refusal
-  refused-from left-row right-row refusal same left_same right_same pair below =
+      → Refused count gate ask lent left_row right_row refusal → Refused count' gate' ask' lent' left_row right_row refusal
+  refused_from left_row right_row refusal same left_same right_same pair below =
       record {
         reason =
             elim below.reason [

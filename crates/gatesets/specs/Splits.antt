@@ -82,23 +82,23 @@ abbrev pub Giving : Type 1
 Giving = Request → List ℕ → List ℕ → List ℕ → Type 0
 
 -- a split that is answered with parts: the set may give them, the part rows then hold them, and the table admits a pair
-pub record Parted (count : ℕ) (gate : List Bool) (gives : Giving) (ask : Request) (lent : Rows) (left-row right-row : List ℕ) : Type 0 where
+pub record Parted (count : ℕ) (gate : List Bool) (gives : Giving) (ask : Request) (lent : Rows) (left_row right_row : List ℕ) : Type 0 where
   pub passed : early count ask lent ≡ None
   pub left : List ℕ
   pub right : List ℕ
   pub given : gives ask (table_in ask lent.table) left right
   pub parts : Parts gate ask (table_in ask lent.table) left right
   pub pair : Pair gate ask (table_in ask lent.table)
-  pub left_holds : left-row ≡ laid left lent.left
-  pub right_holds : right-row ≡ laid right lent.right
+  pub left_holds : left_row ≡ laid left lent.left
+  pub right_holds : right_row ≡ laid right lent.right
 
 -- a split that is refused: by the first check that refuses, or else because the table admits no pair; the part rows are as they were
-pub record Refused (count : ℕ) (gate : List Bool) (ask : Request) (lent : Rows) (left-row right-row : List ℕ) (refusal : SplitRefusal) : Type 0 where
+pub record Refused (count : ℕ) (gate : List Bool) (ask : Request) (lent : Rows) (left_row right_row : List ℕ) (refusal : SplitRefusal) : Type 0 where
   pub reason : (early count ask lent ≡ Some refusal) ⊎ ((early count ask lent ≡ None) × (refusal ≡ NoPair) × (Pair gate ask (table_in ask lent.table) → ⊥))
-  pub left_same : left-row ≡ lent.left
-  pub right_same : right-row ≡ lent.right
+  pub left_same : left_row ≡ lent.left
+  pub right_same : right_row ≡ lent.right
 
 -- what a split has done that was answered r
 abbrev pub Split : ℕ → List Bool → Giving → Request → Rows → List ℕ → List ℕ → Result (Unit {0}) SplitRefusal → Type 0
-Split count gate gives ask lent left-row right-row r =
-    MatchResult r (λ _. Parted count gate gives ask lent left-row right-row) (λ refusal. Refused count gate ask lent left-row right-row refusal)
+Split count gate gives ask lent left_row right_row r =
+    MatchResult r (λ _. Parted count gate gives ask lent left_row right_row) (λ refusal. Refused count gate ask lent left_row right_row refusal)

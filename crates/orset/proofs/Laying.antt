@@ -5,7 +5,7 @@ use Rattle.tables.specs.Groups.{clear, some}
 use Rattle.tables.proofs.Bounded.{some_decides, itself}
 use Rattle.tables.proofs.Clearing.{clear_le}
 use Rattle.orset.specs.Or.{upper, lower_left, or_none}
-use Rattle.orset.proofs.Marks.{turn-kept, turn_more}
+use Rattle.orset.proofs.Marks.{turn_kept, turn_more}
 use Rattle.orset.specs.Cells.{Marked, fails_at, holds, left_one_at, right_one_at, zero_at, zeros_laid}
 
 -- one turn more that finds nothing
@@ -68,16 +68,16 @@ inner_false false b c e = refl
 -- the zeros tell where a part may be 1
 module _ (m : ℕ) (t : ℕ → ℕ) (g i at : ℕ) (row : List ℕ) (long : length row ≡ m) (h : Marked m g (zero_at t) 0 (λ _. 2) row) (cell : at ≡ clear g i) (below : i < m) where
   -- the code of the cell of i
-  at-cell : get_or row at 0 ≡ cond (holds m g (zero_at t) (clear g i)) 0 2
-  at-cell = rw cell (h (clear g i) (omega (arith, clear_le g i)))
+  at_cell : get_or row at 0 ≡ cond (holds m g (zero_at t) (clear g i)) 0 2
+  at_cell = rw cell (h (clear g i) (omega (arith, clear_le g i)))
 
   -- 0: the part may not be 1
-  zero-laid : get_or row at 0 ≡ 0 → upper m t g i ≡ false
-  zero-laid e = zero_from _ (sym at-cell ∙ e)
+  zero_laid : get_or row at 0 ≡ 0 → upper m t g i ≡ false
+  zero_laid e = zero_from _ (sym at_cell ∙ e)
 
   -- any other: it may
-  free-laid : (get_or row at 0 ≡ 0 → ⊥) → upper m t g i ≡ true
-  free-laid e = free_from _ (λ z. e (at-cell ∙ z))
+  free_laid : (get_or row at 0 ≡ 0 → ⊥) → upper m t g i ≡ true
+  free_laid e = free_from _ (λ z. e (at_cell ∙ z))
 
 -- one turn over the left cells
 module _ (m : ℕ) (t : ℕ → ℕ) (l r i : ℕ) (lefts rights : List ℕ) (below : i < m) (long : length rights ≡ m) (zeros : Marked m l (zero_at t) 0 (λ _. 2) rights) where
@@ -86,33 +86,33 @@ module _ (m : ℕ) (t : ℕ → ℕ) (l r i : ℕ) (lefts rights : List ℕ) (be
   LeftsTo k row = (length row ≡ m) × Marked k r (left_one_at m t l) 1 (zeros_laid m t r) row × (some k (fails_at m t l r) ≡ false)
 
   -- no cell is laid where the code is not 1, or the right part may be 1
-  left-kept : (lefts' : List ℕ) → lefts' ≡ lefts → left_one_at m t l i ≡ false → LeftsTo i lefts → LeftsTo (i + 1) lefts'
-  left-kept lefts' same e (h, marked, none) =
-      let turn = turn-kept r (left_one_at m t l) 1 (zeros_laid m t r) m i lefts lefts' same e (h, marked) in
+  left_kept : (lefts' : List ℕ) → lefts' ≡ lefts → left_one_at m t l i ≡ false → LeftsTo i lefts → LeftsTo (i + 1) lefts'
+  left_kept lefts' same e (h, marked, none) =
+      let turn = turn_kept r (left_one_at m t l) 1 (zeros_laid m t r) m i lefts lefts' same e (h, marked) in
       (turn.0, turn.1, some_more (fails_at m t l r) i none (inner_false (eqb (t i) 1) (not (upper m t r i)) (not (upper m t l i)) e))
 
   -- so where the code is not 1
   pub left_passed : (lefts' : List ℕ) → lefts' ≡ lefts → (t i ≡ 1 → ⊥) → LeftsTo i lefts → LeftsTo (i + 1) lefts'
-  left_passed lefts' same e = left-kept lefts' same (rw (ne_eqb (t i) 1 e) refl)
+  left_passed lefts' same e = left_kept lefts' same (rw (ne_eqb (t i) 1 e) refl)
 
   -- so where the right part may be 1
-  pub left-free : (at : ℕ) (lefts' : List ℕ) → lefts' ≡ lefts → at ≡ clear l i → (get_or rights at 0 ≡ 0 → ⊥) → LeftsTo i lefts → LeftsTo (i + 1) lefts'
-  left-free at lefts' same cell e = left-kept lefts' same (second_false (eqb (t i) 1) _ (ap not (free-laid m t l i at rights long zeros cell below e)))
+  pub left_free : (at : ℕ) (lefts' : List ℕ) → lefts' ≡ lefts → at ≡ clear l i → (get_or rights at 0 ≡ 0 → ⊥) → LeftsTo i lefts → LeftsTo (i + 1) lefts'
+  left_free at lefts' same cell e = left_kept lefts' same (second_false (eqb (t i) 1) _ (ap not (free_laid m t l i at rights long zeros cell below e)))
 
-  module _ (right-at at : ℕ) (right-cell : right-at ≡ clear l i) (cell : at ≡ clear r i) (one : t i ≡ 1) (zero : get_or rights right-at 0 ≡ 0) where
+  module _ (right_at at : ℕ) (right_in_cell : right_at ≡ clear l i) (cell : at ≡ clear r i) (one : t i ≡ 1) (zero : get_or rights right_at 0 ≡ 0) where
     -- a code 1 where the right part must be 0 needs a left 1
-    needs-one : left_one_at m t l i ≡ true
-    needs-one = rw (one, zero-laid m t l i right-at rights long zeros right-cell below zero) refl
+    needs_one : left_one_at m t l i ≡ true
+    needs_one = rw (one, zero_laid m t l i right_at rights long zeros right_in_cell below zero) refl
 
     -- the code of its left cell
     left_at : LeftsTo i lefts → get_or lefts at 0 ≡ cond (holds i r (left_one_at m t l) (clear r i)) 1 (cond (holds m r (zero_at t) (clear r i)) 0 2)
     left_at (h, marked, none) = rw cell (marked (clear r i) (omega (arith, clear_le r i)))
 
     -- a code 0 at the left cell too: there is no pair
-    pub left-fails : get_or lefts at 0 ≡ 0 → LeftsTo i lefts → or_none m t l r ≡ true
-    left-fails e inv =
+    pub left_fails : get_or lefts at 0 ≡ 0 → LeftsTo i lefts → or_none m t l r ≡ true
+    left_fails e inv =
         let no : upper m t r i ≡ false = under_from _ _ (sym (left_at inv) ∙ e) in
-        let here : fails_at m t l r i ≡ true = rw (one, no, zero-laid m t l i right-at rights long zeros right-cell below zero) refl in
+        let here : fails_at m t l r i ≡ true = rw (one, no, zero_laid m t l i right_at rights long zeros right_in_cell below zero) refl in
         some_at (fails_at m t l r) m i below here
 
     -- an earlier 1 at the cell did not fail there
@@ -134,7 +134,7 @@ module _ (m : ℕ) (t : ℕ → ℕ) (l r i : ℕ) (lefts rights : List ℕ) (be
     -- any other code there: the cell is laid, and nothing has failed
     pub left_laid : (lefts' : List ℕ) → lefts' ≡ set lefts at 1 → (get_or lefts at 0 ≡ 0 → ⊥) → LeftsTo i lefts → LeftsTo (i + 1) lefts'
     left_laid lefts' same e inv =
-        let turn = turn_more r (left_one_at m t l) 1 (zeros_laid m t r) m i at lefts lefts' same cell needs-one below (inv.0, inv.1) in
+        let turn = turn_more r (left_one_at m t l) 1 (zeros_laid m t r) m i at lefts lefts' same cell needs_one below (inv.0, inv.1) in
         let may : upper m t r i ≡ true = elim (over_from _ _ (λ z. e (left_at inv ∙ z))) [ inl k ↦ earlier inv k | inr k ↦ k ] in
         (turn.0, turn.1, some_more (fails_at m t l r) i inv.2 (second_false (eqb (t i) 1) _ (rw may refl)))
 
@@ -146,8 +146,8 @@ module _ (m : ℕ) (t : ℕ → ℕ) (l r i : ℕ) (lefts rights : List ℕ) (be
   left_one = rw cell (ones (clear r i) (omega (arith, clear_le r i)))
 
   -- the left part must be 1 here, or it need not be
-  pub right-free : get_or lefts at 0 ≡ 1 → right_one_at m t l r i ≡ false
-  right-free e = second_false (eqb (t i) 1) _ (ap not (one_from _ _ (sym left_one ∙ e)))
+  pub right_free : get_or lefts at 0 ≡ 1 → right_one_at m t l r i ≡ false
+  right_free e = second_false (eqb (t i) 1) _ (ap not (one_from _ _ (sym left_one ∙ e)))
 
   -- it need not: a code 1 needs a right 1
   pub right_needs : t i ≡ 1 → (get_or lefts at 0 ≡ 1 → ⊥) → right_one_at m t l r i ≡ true

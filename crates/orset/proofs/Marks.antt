@@ -12,16 +12,16 @@ module _ (g : ℕ) (p : ℕ → Bool) (v : ℕ) (had : ℕ → ℕ) where
   holds-suc i c here passes e h = rw (add-one, e, h) refl
 
   -- the assignment i fails the test: no cell more
-  pub mark-kept : (i : ℕ) (row : List ℕ) → Marked i g p v had row → p i ≡ false → Marked (i + 1) g p v had row
-  mark-kept i row h e c inside = h c inside ∙ ap (λ b. cond b v (had c)) (sym (holds-suc i c (eqb c (clear g i)) false refl e ∙ and-false (eqb c (clear g i)) (holds i g p c)))
+  pub mark_kept : (i : ℕ) (row : List ℕ) → Marked i g p v had row → p i ≡ false → Marked (i + 1) g p v had row
+  mark_kept i row h e c inside = h c inside ∙ ap (λ b. cond b v (had c)) (sym (holds-suc i c (eqb c (clear g i)) false refl e ∙ and_false (eqb c (clear g i)) (holds i g p c)))
     where
-      and-false : (a b : Bool) → (a && false) || b ≡ b
-      and-false true b = refl
-      and-false false b = refl
+      and_false : (a b : Bool) → (a && false) || b ≡ b
+      and_false true b = refl
+      and_false false b = refl
 
   -- it passes: its cell gets the number
-  pub mark-more : (i : ℕ) (row : List ℕ) → Marked i g p v had row → p i ≡ true → clear g i < length row → Marked (i + 1) g p v had (set row (clear g i) v)
-  mark-more i row h e at c inside = here (cases_eq c (clear g i))
+  pub mark_more : (i : ℕ) (row : List ℕ) → Marked i g p v had row → p i ≡ true → clear g i < length row → Marked (i + 1) g p v had (set row (clear g i) v)
+  mark_more i row h e at c inside = here (cases_eq c (clear g i))
     where
       here : (c ≡ clear g i) ⊎ (c ≡ clear g i → ⊥) → get_or (set row (clear g i) v) c 0 ≡ cond (holds (i + 1) g p c) v (had c)
       here (inl same) =
@@ -32,12 +32,12 @@ module _ (g : ℕ) (p : ℕ → Bool) (v : ℕ) (had : ℕ → ℕ) where
           ∙ sym (ap (λ b. cond b v (had c)) (holds-suc i c false true (ne_eqb _ _ other) e))
 
   -- a turn of a loop over m assignments, by the row that it leaves
-  pub turn-kept : (m i : ℕ) (row row' : List ℕ) → row' ≡ row → p i ≡ false
+  pub turn_kept : (m i : ℕ) (row row' : List ℕ) → row' ≡ row → p i ≡ false
       → (length row ≡ m) × Marked i g p v had row → (length row' ≡ m) × Marked (i + 1) g p v had row'
-  turn-kept m i row row' same e (long, h) = rw same (long, mark-kept i row h e)
+  turn_kept m i row row' same e (long, h) = rw same (long, mark_kept i row h e)
 
   -- one that writes its cell
   pub turn_more : (m i at : ℕ) (row row' : List ℕ) → row' ≡ set row at v → at ≡ clear g i → p i ≡ true → i < m
       → (length row ≡ m) × Marked i g p v had row → (length row' ≡ m) × Marked (i + 1) g p v had row'
   turn_more m i at row row' same cell e below (long, h) =
-      rw (same, cell) (length-set row (clear g i) v ∙ long, mark-more i row h e (omega (arith, clear_le g i)))
+      rw (same, cell) (length-set row (clear g i) v ∙ long, mark_more i row h e (omega (arith, clear_le g i)))

@@ -48,12 +48,12 @@ module _ (ask : Request) (table : List ℕ) (size : length table ≡ 2 ^ ask.var
   r = ask.right
 
   -- the rule gives the rows that are written
-  pub parts-by : (answer : Bool) (lefts rights left right : List ℕ) (a b : ℕ) → answer ≡ not (or_none m t l r) → answer ≡ true
+  pub parts_by : (answer : Bool) (lefts rights left right : List ℕ) (a b : ℕ) → answer ≡ not (or_none m t l r) → answer ≡ true
       → length lefts ≡ m → length rights ≡ m → a ≡ m → b ≡ m
       → Marked m r (left_one_at m t l) 1 (zeros_laid m t r) lefts → Marked m l (right_one_at m t l r) 1 (zeros_laid m t l) rights
       → left ≡ map (λ i. get_or lefts (clear r i) 0) (range_with_len 0 a) → right ≡ map (λ i. get_or rights (clear l i) 0) (range_with_len 0 b)
       → or_rule ask table ≡ two_parts left right
-  parts-by answer lefts rights left right a b e h p q x y ml mr el er =
+  parts_by answer lefts rights left right a b e h p q x y ml mr el er =
       ap (λ b. ruled b (codes ask.variables (or_left_code (2 ^ ask.variables) t l r)) (codes ask.variables (or_right_code (2 ^ ask.variables) t l r)))
       (ap (λ x. or_none x t l r) (sym size) ∙ turned _ answer e h)
       ∙ ap₂ two_parts

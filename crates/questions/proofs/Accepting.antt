@@ -11,7 +11,7 @@ use Rattle.questions.specs.declared.layout.Layout.{Layout}
 use Rattle.questions.specs.Layouts.{form_of, entry_length}
 use Rattle.questions.specs.Writing.{free_at, wrong_at, form_for, entry_in, rows_in, entry_bytes, write_checks, writing, ReadAs, ReadsBack, Writable}
 use Rattle.questions.specs.Dictionaries.{any_table}
-use Rattle.questions.proofs.Returning.{entry-returns, length-rows_in, heading_form}
+use Rattle.questions.proofs.Returning.{entry_returns, length-rows_in, heading_form}
 
 -- the one-row form is chosen only where nothing is free
 one_row_none : (o : Option ℕ) → cond (is_some o) TwoRows OneRow ≡ OneRow → o ≡ None
@@ -39,7 +39,7 @@ passed_returns n codes room e =
     let bounds = passed_bounds n codes room e in
     let long = ltb-false (length codes) (2 ^ n) (or_parts _ _ (then_some-none _ TooShort passed.1.0)).0 in
     let right = none_below (wrong_at codes) (2 ^ n) (mapped_none Code (lowest (2 ^ n) (wrong_at codes)) passed.1.1.0) in
-    entry-returns n (form_for n codes) codes bounds.0 bounds.1 long (λ i l. ltb-false 2 (get_or codes i 0) (right i l)) (nothing_free n codes)
+    entry_returns n (form_for n codes) codes bounds.0 bounds.1 long (λ i l. ltb-false 2 (get_or codes i 0) (right i l)) (nothing_free n codes)
 
 -- how long an entry is
 pub length-entry_bytes : (n : ℕ) (codes : List ℕ) → length (entry_bytes n codes) ≡ entry_length n (form_for n codes)
@@ -57,12 +57,12 @@ last_returns n codes room before whole passed e fits =
 -- an output row that begins with the entry of a table
 module _ (n : ℕ) (codes rest now : List ℕ) (begins : now ≡ entry_bytes n codes ++ rest) where
   -- its front is the entry
-  pub front-entry : (size : ℕ) → entry_length n (form_for n codes) ≡ size → take size now ≡ entry_bytes n codes
-  front-entry size e = ap (take size) begins ∙ take_at (entry_bytes n codes) rest size (length-entry_bytes n codes ∙ e)
+  pub front_entry : (size : ℕ) → entry_length n (form_for n codes) ≡ size → take size now ≡ entry_bytes n codes
+  front_entry size e = ap (take size) begins ∙ take_at (entry_bytes n codes) rest size (length-entry_bytes n codes ∙ e)
 
   -- and its first byte says the form
-  pub front-form : n ≤ 10 → form_of (get_or now 0 0) ≡ form_for n codes
-  front-form l = ap (λ xs. form_of (get_or xs 0 0)) begins ∙ heading_form n (form_for n codes) l
+  pub front_form : n ≤ 10 → form_of (get_or now 0 0) ≡ form_for n codes
+  front_form l = ap (λ xs. form_of (get_or xs 0 0)) begins ∙ heading_form n (form_for n codes) l
 
 module _ (n : ℕ) (codes out : List ℕ) (layout : Layout) (ok : Writable n codes (length out) layout) where
   -- the length that the layout has is that of the entry
@@ -70,15 +70,15 @@ module _ (n : ℕ) (codes out : List ℕ) (layout : Layout) (ok : Writable n cod
   size_is = layout.sized.2 ∙ ap₂ entry_length ok.1 ok.2
 
   -- the answer
-  pub written-answer : Ok layout.length ≡ writing n codes (length out)
-  written-answer = ap Ok size_is ∙ sym (ap (λ r. answered r (entry_length n (form_for n codes))) ok.0)
+  pub written_answer : Ok layout.length ≡ writing n codes (length out)
+  written_answer = ap Ok size_is ∙ sym (ap (λ r. answered r (entry_length n (form_for n codes))) ok.0)
 
   -- the output row
   pub written_out : (now : List ℕ) → now ≡ entry_in layout.form layout.variables codes ++ drop layout.length out → now ≡ entry_bytes n codes ++ drop layout.length out
   written_out now e = e ∙ ap₂ (λ f m. entry_in f m codes ++ drop layout.length out) ok.2 ok.1
 
   -- what was written is read back
-  pub written-returns : (now : List ℕ) → now ≡ entry_in layout.form layout.variables codes ++ drop layout.length out → ReadsBack n codes (take layout.length now)
-  written-returns now e =
-      let front = front-entry n codes (drop layout.length out) now (written_out now e) layout.length (sym size_is) in
+  pub written_returns : (now : List ℕ) → now ≡ entry_in layout.form layout.variables codes ++ drop layout.length out → ReadsBack n codes (take layout.length now)
+  written_returns now e =
+      let front = front_entry n codes (drop layout.length out) now (written_out now e) layout.length (sym size_is) in
       subst (ReadsBack n codes) (sym front) (passed_returns n codes (length out) ok.0)

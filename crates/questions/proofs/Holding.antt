@@ -15,8 +15,8 @@ same_fault : (r : Result Entry EntryFault) (e f : EntryFault) → r ≡ Err e �
 same_fault r e f p q = cc
 
 -- an answer is no refusal
-not-both : {X : Type 0} (r : Result Entry EntryFault) (e : Entry) (f : EntryFault) → r ≡ Ok e → r ≡ Err f → X
-not-both r e f p q = clash (cc)
+not_both : {X : Type 0} (r : Result Entry EntryFault) (e : Entry) (f : EntryFault) → r ≡ Ok e → r ≡ Err f → X
+not_both r e f p q = clash (cc)
 
 -- a byte number is not both past the end and before it
 past : {X : Type 0} (m n : ℕ) → m ≤ n → n < m → X
@@ -30,9 +30,9 @@ holds_one_list file at items others ending other (ended _ l) (entry _ e is o m r
 holds_one_list file at items others ending other (stopped _ fault l q) (ended _ m) = past (length file) at m l
 holds_one_list file at items others ending other (stopped _ fault l q) (stopped _ gault m r) =
     (refl, ap (λ f. Some (record { at = at; fault = f })) (same_fault (reading file at any_table) fault gault q r))
-holds_one_list file at items others ending other (stopped _ fault l q) (entry _ e is o m r h) = not-both (reading file at any_table) e fault r q
+holds_one_list file at items others ending other (stopped _ fault l q) (entry _ e is o m r h) = not_both (reading file at any_table) e fault r q
 holds_one_list file at items others ending other (entry _ e is o l q h) (ended _ m) = past (length file) at m l
-holds_one_list file at items others ending other (entry _ e is o l q h) (stopped _ fault m r) = not-both (reading file at any_table) e fault q r
+holds_one_list file at items others ending other (entry _ e is o l q h) (stopped _ fault m r) = not_both (reading file at any_table) e fault q r
 holds_one_list file at items others ending other (entry _ e is o l q h) (entry _ f js p m r k) =
     let same = same_entry (reading file at any_table) e f q r in
     let rest = holds_one_list file e.next is js o p h (subst (λ x. Holds file x.next js p) (sym same) k) in

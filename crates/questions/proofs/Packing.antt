@@ -37,9 +37,9 @@ module _ (f : ℕ → ℕ) (bits : (k : ℕ) → f k ≤ 1) where
   packed_lt (suc m) = omega (arith, packed_lt m, pow-suc 2 m, mul-le (f m) (2 ^ m) 1 (2 ^ m) (bits m) (omega arith))
 
   -- each digit is read off as it was packed
-  pub packed-digit : (m k : ℕ) → k < m → digit k (packed f m) ≡ f k
-  packed-digit zero k l = absurd (let z : ⊥ = omega arith in z)
-  packed-digit (suc m) k l = at (cases_eq k m) (packed-digit m k)
+  pub packed_digit : (m k : ℕ) → k < m → digit k (packed f m) ≡ f k
+  packed_digit zero k l = absurd (let z : ⊥ = omega arith in z)
+  packed_digit (suc m) k l = at (cases_eq k m) (packed_digit m k)
     where
       at : (k ≡ m) ⊎ (k ≡ m → ⊥) → (k < m → digit k (packed f m) ≡ f k) → digit k (packed f (suc m)) ≡ f k
       at (inl e) below = rw e (digit_top m (packed f m) (f m) (packed_lt m) (bits m))
@@ -52,5 +52,5 @@ module _ (f : ℕ → ℕ) (bits : (k : ℕ) → f k ≤ 1) where
       rw add-one (ap₂ ◌+◌ e (shl_whole d 1 m 8 small (omega arith) ∙ ap (λ x. x * 2 ^ m) v))
 
   -- a byte has room for eight digits
-  pub packed-fits : (m : ℕ) → m ≤ 8 → packed f m < 256
-  packed-fits m l = omega (arith, packed_lt m, pow_mono {i = m} {j = 8} l)
+  pub packed_fits : (m : ℕ) → m ≤ 8 → packed f m < 256
+  packed_fits m l = omega (arith, packed_lt m, pow_mono {i = m} {j = 8} l)

@@ -22,7 +22,7 @@ use Rattle.questions.specs.Layouts.{variables_of, form_of, row_length, entry_len
 use Rattle.questions.specs.Entries.{entry_checks, spare_at, above_at, reading_from}
 use Rattle.questions.specs.Writing.{digit_of, row_byte, row_bytes, rows_in, first_byte, entry_in, ReadsBackIn}
 use Rattle.questions.proofs.Rows.{place_in_row}
-use Rattle.questions.proofs.Packing.{digit_le, packed_lt, packed-digit}
+use Rattle.questions.proofs.Packing.{digit_le, packed_lt, packed_digit}
 use Rattle.questions.proofs.Pasting.{length-row_bytes}
 use Rattle.questions.proofs.Answering.{entry_by}
 
@@ -64,7 +64,7 @@ row_read n side codes before after start i e l =
     ∙ get_or_append_left (row_bytes n side codes) after 0 (i / 8) long
     ∙ get_or-map-range_with_len (row_byte n side codes) 0 (row_length n) (i / 8) (i / 8) 0 inside (omega arith) in
     let place : 8 * (i / 8) + i % 8 ≡ i = omega arith in
-    ap (digit (i % 8)) byte ∙ packed-digit digits (λ k. digit_le side _) (min 8 (2 ^ n)) (i % 8) (omega arith)
+    ap (digit (i % 8)) byte ∙ packed_digit digits (λ k. digit_le side _) (min 8 (2 ^ n)) (i % 8) (omega arith)
     ∙ ap (λ k. digit_of side (get_or codes k 0)) place
 
 -- no byte of a row has a spare digit set
@@ -124,15 +124,15 @@ module _ (n : ℕ) (form : Form) (codes : List ℕ) (least : 1 ≤ n) (most : n 
       ap₂ code_by (lower_read n form codes after i l) (upper_read n form codes after i l (small i l) (λ e. whole e i l)) ∙ code_digits (get_or codes i 0) (small i l)
 
   -- so the table is read as it was
-  pub table-returns : (after : List ℕ) → table n form (entry_in form n codes ++ after) ≡ take (2 ^ n) codes
-  table-returns after =
+  pub table_returns : (after : List ℕ) → table n form (entry_in form n codes ++ after) ≡ take (2 ^ n) codes
+  table_returns after =
       sym (fill_by_all (code n form (entry_in form n codes ++ after)) (take (2 ^ n) codes) (2 ^ n) 0 (length-take-le (2 ^ n) codes long)
       (λ i l. get_or-take (2 ^ n) codes i 0 l ∙ sym (code_read after i l)))
 
   -- no byte is refused for a spare digit
-  none-spare : (after : List ℕ) (k : ℕ) → k < entry_length n form → spare_at n (entry_in form n codes ++ after) k ≡ false
-  none-spare after zero l = refl
-  none-spare after (suc k) l =
+  none_spare : (after : List ℕ) (k : ℕ) → k < entry_length n form → spare_at n (entry_in form n codes ++ after) k ≡ false
+  none_spare after zero l = refl
+  none_spare after (suc k) l =
       let inside : k < length (rows_in form n codes) = omega (arith, length-rows_in n form codes) in
       and_right _ _ (ap (spare n) (get_or_append_left (rows_in form n codes) after 0 k inside) ∙ All-get_or (λ b. spare n b ≡ false) (rows_in form n codes) k 0 inside (rows_whole n form codes))
 
@@ -143,8 +143,8 @@ module _ (n : ℕ) (form : Form) (codes : List ℕ) (least : 1 ≤ n) (most : n 
       (digits_ordered (get_or codes i 0)))
 
   -- the reader refuses nothing
-  pub checks-pass : (after : List ℕ) (room : ℕ) → 2 ^ n ≤ room → first (entry_checks n form (entry_in form n codes ++ after) room) ≡ None
-  checks-pass after room fits =
+  pub checks_pass : (after : List ℕ) (room : ℕ) → 2 ^ n ≤ room → first (entry_checks n form (entry_in form n codes ++ after) room) ≡ None
+  checks_pass after room fits =
       let bytes = entry_in form n codes ++ after in
       let enough : entry_length n form ≤ length bytes = omega (arith, length-rows_in n form codes, length-append (rows_in form n codes) after) in
       first_none (entry_checks n form bytes room) (
@@ -154,7 +154,7 @@ module _ (n : ℕ) (form : Form) (codes : List ℕ) (least : 1 ≤ n) (most : n 
           (
             ap (λ b. then_some b TooShort) (or_from _ _ (le-ltb (length bytes) (entry_length n form) enough) (le-ltb room (2 ^ n) fits)),
             (
-              ap (option_map SpareDigit) (lowest-none (spare_at n bytes) (entry_length n form) (none-spare after)),
+              ap (option_map SpareDigit) (lowest-none (spare_at n bytes) (entry_length n form) (none_spare after)),
               (ap (option_map LowerAboveUpper) (lowest-none (above_at n form bytes) (2 ^ n) (none_above after)), tt),
             ),
           ),
@@ -162,22 +162,22 @@ module _ (n : ℕ) (form : Form) (codes : List ℕ) (least : 1 ≤ n) (most : n 
       )
 
   -- the answer of the reader
-  answer-returns : (at room : ℕ) (after : List ℕ) → 2 ^ n ≤ room
+  answer_returns : (at room : ℕ) (after : List ℕ) → 2 ^ n ≤ room
       → reading_from (entry_in form n codes ++ after) at room ≡ Ok (record { variables = n; form = form; next = at + entry_length n form })
-  answer-returns at room after fits =
+  answer_returns at room after fits =
       let bytes = entry_in form n codes ++ after in
       ap₂ (λ m f. answered (first (entry_checks m f bytes room)) (entry_by m f (at + entry_length m f))) (heading_variables n form most) (heading_form n form most)
-      ∙ ap (λ r. answered r (entry_by n form (at + entry_length n form))) (checks-pass after room fits)
+      ∙ ap (λ r. answered r (entry_by n form (at + entry_length n form))) (checks_pass after room fits)
 
   -- wherever in a file the entry stands
-  pub entry-returns : ReadsBackIn form n codes (entry_in form n codes)
-  entry-returns before after room fits =
+  pub entry_returns : ReadsBackIn form n codes (entry_in form n codes)
+  entry_returns before after room fits =
       let bytes = entry_in form n codes ++ after in
       let here : drop (length before) (before ++ bytes) ≡ bytes = drop_at before bytes (length before) refl in
       let size : entry_length n form ≡ length (entry_in form n codes) = sym (length-rows_in n form codes) ∙ one-add (length (rows_in form n codes)) in
       record {
         answer =
-            ap (λ bs. reading_from bs (length before) room) here ∙ answer-returns (length before) room after fits
+            ap (λ bs. reading_from bs (length before) room) here ∙ answer_returns (length before) room after fits
             ∙ ap (λ k. Ok (entry_by n form (length before + k))) size;
-        table_read = ap (table n form) here ∙ table-returns after;
+        table_read = ap (table n form) here ∙ table_returns after;
       }

@@ -9,9 +9,9 @@ use Rattle.tables.proofs.Passing.{clash}
 
 module _ {A : Type 0} {E : A → A → Bool → Type 0} (decides : (x y : A) (r : Bool) → E x y r → Decides r (x ≡ y)) where
   -- entries of which `!=` is false are equal
-  pub not-apart : (x y : A) → ((b : Bool) × E x y b × (false ≡ not b)) → x ≡ y
-  not-apart x y (true, e, z) = (decides x y true e).0 refl
-  not-apart x y (false, e, z) = clash (cc)
+  pub not_apart : (x y : A) → ((b : Bool) × E x y b × (false ≡ not b)) → x ≡ y
+  not_apart x y (true, e, z) = (decides x y true e).0 refl
+  not_apart x y (false, e, z) = clash (cc)
 
   -- entries of which `!=` is true are not
   pub apart : (x y : A) → ((b : Bool) × E x y b × (true ≡ not b)) → x ≡ y → false ≡ true

@@ -15,5 +15,5 @@ module _ (f : ℕ → ℕ) (m : ℕ) (row : List ℕ) (start : ℕ) where
       rw (e, at, value) (paste_more row start (map f (range_with_len 0 m)) i 0 inside long)
 
   -- after the last turn
-  pub fill-all : (now : List ℕ) → now ≡ paste row start (map f (range_with_len 0 m)) m → now ≡ take start row ++ (map f (range_with_len 0 m) ++ drop (start + m) row)
-  fill-all now e = e ∙ paste_all row start (map f (range_with_len 0 m)) m (sym (length-map-range_with_len f 0 m))
+  pub fill_all : (now : List ℕ) → now ≡ paste row start (map f (range_with_len 0 m)) m → now ≡ take start row ++ (map f (range_with_len 0 m) ++ drop (start + m) row)
+  fill_all now e = e ∙ paste_all row start (map f (range_with_len 0 m)) m (sym (length-map-range_with_len f 0 m))

@@ -51,15 +51,15 @@ module _ (p : ℕ → Bool) where
   lowest-suc m o b e h = ap₂ (λ x y. option_or x (then_some y m)) e h
 
   -- a turn of a loop that keeps the lowest so far: the number passes, or it does not
-  pub lowest-kept : (m : ℕ) (o : Option ℕ) → o ≡ lowest m p → p m ≡ false → o ≡ lowest (m + 1) p
-  lowest-kept m o e h = rw add-one (sym (lowest-suc m o false (sym e) h ∙ option_or-pass o))
+  pub lowest_kept : (m : ℕ) (o : Option ℕ) → o ≡ lowest m p → p m ≡ false → o ≡ lowest (m + 1) p
+  lowest_kept m o e h = rw add-one (sym (lowest-suc m o false (sym e) h ∙ option_or-pass o))
 
-  pub lowest-met : (m : ℕ) (o : Option ℕ) → o ≡ lowest m p → p m ≡ true → option_or o (Some m) ≡ lowest (m + 1) p
-  lowest-met m o e h = rw add-one (sym (lowest-suc m o true (sym e) h))
+  pub lowest_met : (m : ℕ) (o : Option ℕ) → o ≡ lowest m p → p m ≡ true → option_or o (Some m) ≡ lowest (m + 1) p
+  lowest_met m o e h = rw add-one (sym (lowest-suc m o true (sym e) h))
 
   -- a turn that does not stop
-  pub lowest-more : (m : ℕ) → lowest m p ≡ None → p m ≡ false → lowest (m + 1) p ≡ None
-  lowest-more m e h = rw add-one (lowest-suc m None false e h)
+  pub lowest_more : (m : ℕ) → lowest m p ≡ None → p m ≡ false → lowest (m + 1) p ≡ None
+  lowest_more m e h = rw add-one (lowest-suc m None false e h)
 
   -- none is found where none passes
   pub lowest-none : (m : ℕ) → ((k : ℕ) → k < m → p k ≡ false) → lowest m p ≡ None
@@ -67,9 +67,9 @@ module _ (p : ℕ → Bool) where
   lowest-none (suc m) h = lowest-suc m None false (lowest-none m (λ k l. h k (omega arith))) (h m (omega arith))
 
   -- the turn that stops has found the lowest
-  pub lowest-at : (m i : ℕ) → lowest i p ≡ None → p i ≡ true → i < m → lowest m p ≡ Some i
-  lowest-at zero i e h l = absurd (let z : ⊥ = omega arith in z)
-  lowest-at (suc m) i e h l = at (cases_eq i m) (lowest-at m i e h)
+  pub lowest_at : (m i : ℕ) → lowest i p ≡ None → p i ≡ true → i < m → lowest m p ≡ Some i
+  lowest_at zero i e h l = absurd (let z : ⊥ = omega arith in z)
+  lowest_at (suc m) i e h l = at (cases_eq i m) (lowest_at m i e h)
     where
       at : (i ≡ m) ⊎ (i ≡ m → ⊥) → (i < m → lowest m p ≡ Some i) → lowest (suc m) p ≡ Some i
       at (inl s) below = lowest-suc m None true (rw s at e) (rw s at h) ∙ ap Some (sym s)

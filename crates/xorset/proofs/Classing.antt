@@ -5,21 +5,21 @@ use Rattle.std.proofs.lemmas.Bool.{cases_eq, cases_lt}
 use Rattle.xorset.specs.Search.{Among, Between, Came, Going, IsCell, Passed, Touches, Waits, Went, waiting}
 use Rattle.xorset.proofs.Linking.{among_last}
 use Rattle.xorset.proofs.Stepping.{pop, root}
-use Rattle.xorset.proofs.Writing.{written-fewer, written-here}
+use Rattle.xorset.proofs.Writing.{written_fewer, written_here}
 
 module _ (n : ℕ) (t : ℕ → ℕ) (l r : ℕ) where
   -- the search has led nowhere yet
-  pub went-none : (vs held : List ℕ) → Going n t l r vs held (Waits n l r held) → Went n t l r vs held vs held
-  went-none vs held g = record { going = g; fewer = λ c e. e; less = omega arith }
+  pub went_none : (vs held : List ℕ) → Going n t l r vs held (Waits n l r held) → Went n t l r vs held vs held
+  went_none vs held g = record { going = g; fewer = λ c e. e; less = omega arith }
 
   module _ (vs held rest : List ℕ) (c : ℕ) (e : held ≡ rest ++ c ∷ []) where
     -- the latest cell c of the stack has a value
-    pub popped-valued : Going n t l r vs held (Waits n l r held) → get_or vs c 2 < 2
-    popped-valued g = g.stacked c (subst (λ x. Among c x) (sym e) (among_last c rest c refl))
+    pub popped_valued : Going n t l r vs held (Waits n l r held) → get_or vs c 2 < 2
+    popped_valued g = g.stacked c (subst (λ x. Among c x) (sym e) (among_last c rest c refl))
 
     -- so it is the cell of an assignment
-    pub popped-cell : Going n t l r vs held (Waits n l r held) → IsCell n l r c
-    popped-cell g = g.cells c (λ q. let valued = popped-valued g in omega arith)
+    pub popped_cell : Going n t l r vs held (Waits n l r held) → IsCell n l r c
+    popped_cell g = g.cells c (λ q. let valued = popped_valued g in omega arith)
 
     -- it is visited next
     pub popped : (cell : ℕ) → cell ≡ c → Going n t l r vs held (Waits n l r held) → Going n t l r vs rest (Touches n l r rest cell)
@@ -36,8 +36,8 @@ module _ (n : ℕ) (t : ℕ → ℕ) (l r : ℕ) where
         }
 
     -- which the number of turns is measured by
-    pub went-less : (vs' held' : List ℕ) → Went n t l r vs rest vs' held' → waiting vs' + length held' < waiting vs + length held
-    went-less vs' held' after = omega (arith, after.less, ap length e, length_push rest c)
+    pub went_less : (vs' held' : List ℕ) → Went n t l r vs rest vs' held' → waiting vs' + length held' < waiting vs + length held
+    went_less vs' held' after = omega (arith, after.less, ap length e, length_push rest c)
 
   module _ (vs held : List ℕ) (k : ℕ) (b : Between n t l r k vs held) where
     -- a cell that does not wait is passed
@@ -56,10 +56,10 @@ module _ (n : ℕ) (t : ℕ → ℕ) (l r : ℕ) where
         (root n t l r vs k b.going wait (λ w q. elim (cases_lt w k) [ inl lt ↦ absurd (b.past w lt q) | inr le ↦ le ]))
 
     -- when its class is visited it is passed too
-    pub class-passed : (answer : Bool) (held₁ vs₂ held₂ : List ℕ) → get_or vs k 2 ≡ 3 → Came answer n t l r (set vs k 0) held₁ vs₂ held₂ → (answer ≡ true → held₂ ≡ [])
+    pub class_passed : (answer : Bool) (held₁ vs₂ held₂ : List ℕ) → get_or vs k 2 ≡ 3 → Came answer n t l r (set vs k 0) held₁ vs₂ held₂ → (answer ≡ true → held₂ ≡ [])
         → Passed answer n t l r (k + 1) vs₂ held₂
-    class-passed false held₁ vs₂ held₂ wait came empty = came
-    class-passed true held₁ vs₂ held₂ wait came empty =
+    class_passed false held₁ vs₂ held₂ wait came empty = came
+    class_passed true held₁ vs₂ held₂ wait came empty =
         record {
           empty = empty refl;
           going = subst (λ x. Going n t l r vs₂ x (Waits n l r x)) (empty refl) came.going;
@@ -70,5 +70,5 @@ module _ (n : ℕ) (t : ℕ → ℕ) (l r : ℕ) where
         small = omega arith
 
         past : (c : ℕ) → c < k + 1 → get_or (set vs k 0) c 2 ≡ 3 → (c ≡ k) ⊎ (c ≡ k → ⊥) → ⊥
-        past c lt e (inl q) = let zero-there = ap (λ x. get_or (set vs k 0) x 2) q ∙ written-here vs k 0 wait small in omega arith
-        past c lt e (inr ne) = b.past c (omega arith) (written-fewer vs k 0 wait small c e)
+        past c lt e (inl q) = let zero_there = ap (λ x. get_or (set vs k 0) x 2) q ∙ written_here vs k 0 wait small in omega arith
+        past c lt e (inr ne) = b.past c (omega arith) (written_fewer vs k 0 wait small c e)

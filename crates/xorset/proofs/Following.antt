@@ -17,7 +17,7 @@ pub xor-wanted : (v c : ℕ) → v < 2 → c < 2 → bit_xor v c ≡ wanted v c
 xor-wanted v c hv hc =
     elim (cases_eq v 0) [
       | inl e ↦ elim (cases_eq c 0) [ inl f ↦ rw (e, f) refl | inr f ↦ let one : c ≡ 1 = omega arith in rw (e, one) refl ]
-      | inr e ↦ let one-v : v ≡ 1 = omega arith in elim (cases_eq c 0) [ inl f ↦ rw (one-v, f) refl | inr f ↦ let one : c ≡ 1 = omega arith in rw (one-v, one) refl ]
+      | inr e ↦ let one_v : v ≡ 1 = omega arith in elim (cases_eq c 0) [ inl f ↦ rw (one_v, f) refl | inr f ↦ let one : c ≡ 1 = omega arith in rw (one_v, one) refl ]
     ]
 
 -- an element is pushed where the stack has room
@@ -36,17 +36,17 @@ module _ (vs held : List ℕ) (other value c : ℕ) (here : other < length vs) (
   read = get_or_default vs other 0 2 here
 
   -- the test of the code tells whether the other cell has the value wanted
-  followed-by : (b : Bool) → eqb (get_or vs other 0) (bit_xor value c) ≡ b → (get_or vs other 0 ≡ 3 → ⊥) → Followed b c value other vs held vs held
-  followed-by true e valued = inl (inr (hc, sym read ∙ eqb-true _ _ e ∙ xor-wanted value c hv hc), refl, refl)
-  followed-by false e valued = (hc, λ q. valued (read ∙ q), λ q. eqb-false _ _ e (read ∙ q ∙ sym (xor-wanted value c hv hc)))
+  followed_by : (b : Bool) → eqb (get_or vs other 0) (bit_xor value c) ≡ b → (get_or vs other 0 ≡ 3 → ⊥) → Followed b c value other vs held vs held
+  followed_by true e valued = inl (inr (hc, sym read ∙ eqb-true _ _ e ∙ xor-wanted value c hv hc), refl, refl)
+  followed_by false e valued = (hc, λ q. valued (read ∙ q), λ q. eqb-false _ _ e (read ∙ q ∙ sym (xor-wanted value c hv hc)))
 
   -- the other cell has a value
-  pub followed-kept : (get_or vs other 0 ≡ 3 → ⊥) → Followed (eqb (get_or vs other 0) (bit_xor value c)) c value other vs held vs held
-  followed-kept valued = followed-by (eqb (get_or vs other 0) (bit_xor value c)) refl valued
+  pub followed_kept : (get_or vs other 0 ≡ 3 → ⊥) → Followed (eqb (get_or vs other 0) (bit_xor value c)) c value other vs held vs held
+  followed_kept valued = followed_by (eqb (get_or vs other 0) (bit_xor value c)) refl valued
 
   -- the other cell waits
-  pub followed-pushed : (after : List ℕ) → get_or vs other 0 ≡ 3 → after ≡ held ++ other ∷ [] → Followed true c value other vs held (set vs other (bit_xor value c)) after
-  followed-pushed after wait e = inr (hc, sym read ∙ wait, ap (λ v. set vs other v) (xor-wanted value c hv hc), e)
+  pub followed_pushed : (after : List ℕ) → get_or vs other 0 ≡ 3 → after ≡ held ++ other ∷ [] → Followed true c value other vs held (set vs other (bit_xor value c)) after
+  followed_pushed after wait e = inr (hc, sym read ∙ wait, ap (λ v. set vs other v) (xor-wanted value c hv hc), e)
 
 -- a left cell is visited by the right group
 pub visits_left : (n l r c : ℕ) → r < 2 ^ n → c < 2 ^ n → IsCell n l r c → Visits n l r (record { cell = c; base = c; group = r; other = Right })

@@ -8,7 +8,7 @@ use Rattle.tables.proofs.Within.{within_same}
 use Rattle.tables.proofs.Clearing.{SameCleared}
 use Rattle.xorset.specs.Cells.{Meets, is_one, left_cell, right_cell, xor}
 use Rattle.xorset.specs.Xor.{Label, Links, moved, join_at, join, join_if, links, linked}
-use Rattle.xorset.proofs.Parities.{xor_regroup, xor_roots, xor_same, xor_back, xor_met, xor_right, xor_left, xor-both}
+use Rattle.xorset.proofs.Parities.{xor_regroup, xor_roots, xor_same, xor_back, xor_met, xor_right, xor_left, xor_both}
 
 -- the values f follow the labels: each cell differs from its root by its parity
 abbrev pub Follows : (ℕ → Bool) → (ℕ → Label) → Type 0
@@ -34,8 +34,8 @@ module _ (f : ℕ → Bool) (a b : ℕ) (v : Bool) (s : Links) (met : xor (f a) 
   differ = xor_roots (s.label a).odd (s.label b).odd (f (s.label a).root) (f (s.label b).root) v (f a) (f b) met (h a) (h b)
 
   -- they follow the new labels
-  join-follows : Follows f (join a b v s).label
-  join-follows = go (eqb (s.label a).root (s.label b).root) (ltb (s.label a).root (s.label b).root)
+  join_follows : Follows f (join a b v s).label
+  join_follows = go (eqb (s.label a).root (s.label b).root) (ltb (s.label a).root (s.label b).root)
     where
       go : (x y : Bool) → Follows f (join_at x y s.label (s.label a) (s.label b) (gap a b v s) s.bad).label
       go true y = h
@@ -43,8 +43,8 @@ module _ (f : ℕ → Bool) (a b : ℕ) (v : Bool) (s : Links) (met : xor (f a) 
       go false false = moved_follows f s.label (s.label a).root (s.label b).root (gap a b v s) h (xor_back (gap a b v s) _ _ differ)
 
   -- the link is no failure
-  join-fine : s.bad ≡ false → (join a b v s).bad ≡ false
-  join-fine w = go (eqb (s.label a).root (s.label b).root) (ltb (s.label a).root (s.label b).root) refl
+  join_fine : s.bad ≡ false → (join a b v s).bad ≡ false
+  join_fine w = go (eqb (s.label a).root (s.label b).root) (ltb (s.label a).root (s.label b).root) refl
     where
       go : (x y : Bool) → eqb (s.label a).root (s.label b).root ≡ x → (join_at x y s.label (s.label a) (s.label b) (gap a b v s) s.bad).bad ≡ false
       go true y e = or_from _ _ w (xor_same (gap a b v s) _ _ differ (ap f (eqb-true _ _ e)))
@@ -73,8 +73,8 @@ module _ (m : ℕ → Label) (from to : ℕ) (d : Bool) where
   moved_at c e = cond-true _ (anew c) (m c) (eq-eqb _ _ e)
 
   -- another cell keeps its label
-  moved-off : (c : ℕ) → ((m c).root ≡ from → ⊥) → moved m from to d c ≡ m c
-  moved-off c e = cond-false _ (anew c) (m c) (ne_eqb _ _ e)
+  moved_off : (c : ℕ) → ((m c).root ≡ from → ⊥) → moved m from to d c ≡ m c
+  moved_off c e = cond-false _ (anew c) (m c) (ne_eqb _ _ e)
 
   -- a link that is met remains so
   moved_keeps : (x y : ℕ) (w : Bool) → Holds m x y w → Holds (moved m from to d) x y w
@@ -84,17 +84,17 @@ module _ (m : ℕ → Label) (from to : ℕ) (d : Bool) where
       go (inl k) =
           let p = moved_at x k in
           let q = moved_at y (sym e ∙ k) in
-          (ap root_of p ∙ sym (ap root_of q), ap₂ odd_of p q ∙ xor-both d (m x).odd (m y).odd ∙ o)
+          (ap root_of p ∙ sym (ap root_of q), ap₂ odd_of p q ∙ xor_both d (m x).odd (m y).odd ∙ o)
       go (inr k) =
-          let p = moved-off x k in
-          let q = moved-off y (λ z. k (e ∙ z)) in
+          let p = moved_off x k in
+          let q = moved_off y (λ z. k (e ∙ z)) in
           (ap root_of p ∙ e ∙ sym (ap root_of q), ap₂ odd_of p q ∙ o)
 
 -- a new link
 module _ (a b : ℕ) (v : Bool) (s : Links) where
   -- the links that were met remain so
-  join-keeps : (x y : ℕ) (w : Bool) → Holds s.label x y w → Holds (join a b v s).label x y w
-  join-keeps x y w h = go (eqb (s.label a).root (s.label b).root) (ltb (s.label a).root (s.label b).root)
+  join_keeps : (x y : ℕ) (w : Bool) → Holds s.label x y w → Holds (join a b v s).label x y w
+  join_keeps x y w h = go (eqb (s.label a).root (s.label b).root) (ltb (s.label a).root (s.label b).root)
     where
       go : (p q : Bool) → Holds (join_at p q s.label (s.label a) (s.label b) (gap a b v s) s.bad).label x y w
       go true q = h
@@ -102,8 +102,8 @@ module _ (a b : ℕ) (v : Bool) (s : Links) where
       go false false = moved_keeps s.label (s.label a).root (s.label b).root (gap a b v s) x y w h
 
   -- nothing failed before where nothing has failed after
-  join-back : (join a b v s).bad ≡ false → s.bad ≡ false
-  join-back = go (eqb (s.label a).root (s.label b).root) (ltb (s.label a).root (s.label b).root)
+  join_back : (join a b v s).bad ≡ false → s.bad ≡ false
+  join_back = go (eqb (s.label a).root (s.label b).root) (ltb (s.label a).root (s.label b).root)
     where
       go : (p q : Bool) → (join_at p q s.label (s.label a) (s.label b) (gap a b v s) s.bad).bad ≡ false → s.bad ≡ false
       go true q e = (or_parts _ _ e).0
@@ -111,19 +111,19 @@ module _ (a b : ℕ) (v : Bool) (s : Links) where
       go false false e = e
 
   -- and the new link is then met
-  join-holds : (join a b v s).bad ≡ false → Holds (join a b v s).label a b v
-  join-holds = go (eqb (s.label a).root (s.label b).root) (ltb (s.label a).root (s.label b).root) refl
+  join_holds : (join a b v s).bad ≡ false → Holds (join a b v s).label a b v
+  join_holds = go (eqb (s.label a).root (s.label b).root) (ltb (s.label a).root (s.label b).root) refl
     where
       go : (p q : Bool) → eqb (s.label a).root (s.label b).root ≡ p → (join_at p q s.label (s.label a) (s.label b) (gap a b v s) s.bad).bad ≡ false
           → Holds (join_at p q s.label (s.label a) (s.label b) (gap a b v s) s.bad).label a b v
       go true q e w = (eqb-true _ _ e, xor_met v (s.label a).odd (s.label b).odd (or_parts s.bad (gap a b v s) w).1)
       go false true e w =
-          let p = moved-off s.label (s.label b).root (s.label a).root (gap a b v s) a (eqb-false _ _ e) in
+          let p = moved_off s.label (s.label b).root (s.label a).root (gap a b v s) a (eqb-false _ _ e) in
           let q = moved_at s.label (s.label b).root (s.label a).root (gap a b v s) b refl in
           (ap root_of p ∙ sym (ap root_of q), ap₂ odd_of p q ∙ xor_right v (s.label a).odd (s.label b).odd)
       go false false e w =
           let p = moved_at s.label (s.label a).root (s.label b).root (gap a b v s) a refl in
-          let q = moved-off s.label (s.label a).root (s.label b).root (gap a b v s) b (λ z. eqb-false _ _ e (sym z)) in
+          let q = moved_off s.label (s.label a).root (s.label b).root (gap a b v s) b (λ z. eqb-false _ _ e (sym z)) in
           (ap root_of p ∙ sym (ap root_of q), ap₂ odd_of p q ∙ xor_left v (s.label a).odd (s.label b).odd)
 
 module _ (n : ℕ) (t : ℕ → ℕ) (l r : ℕ) where
@@ -137,7 +137,7 @@ module _ (n : ℕ) (t : ℕ → ℕ) (l r : ℕ) where
           × ((join_if b (left_cell r k) (right_cell n l k) (is_one (t k)) (links n t l r k)).bad ≡ false)
       go true e (h, w) =
           let met = g k (omega arith) (ltb-true _ _ e) in
-          (join-follows f _ _ _ (links n t l r k) met h, join-fine f _ _ _ (links n t l r k) met h w)
+          (join_follows f _ _ _ (links n t l r k) met h, join_fine f _ _ _ (links n t l r k) met h w)
       go false e h = h
 
   -- while no link failed, the labels meet every link
@@ -152,8 +152,8 @@ module _ (n : ℕ) (t : ℕ → ℕ) (l r : ℕ) where
           → Holds (join_if b (left_cell r k) (right_cell n l k) (is_one (t k)) (links n t l r k)).label (left_cell r i) (right_cell n l i) (is_one (t i))
       go true e w ih (inl z) =
           subst (λ j. Holds (join (left_cell r k) (right_cell n l k) (is_one (t k)) (links n t l r k)).label (left_cell r j) (right_cell n l j) (is_one (t j))) z
-          (join-holds _ _ _ (links n t l r k) w)
-      go true e w ih (inr z) = join-keeps _ _ _ (links n t l r k) _ _ _ (ih (join-back _ _ _ (links n t l r k) w) i (omega arith) h)
+          (join_holds _ _ _ (links n t l r k) w)
+      go true e w ih (inr z) = join_keeps _ _ _ (links n t l r k) _ _ _ (ih (join_back _ _ _ (links n t l r k) w) i (omega arith) h)
       go false e w ih (inl z) = absurd (omega (arith, ltb-false _ _ e, ap t z))
       go false e w ih (inr z) = ih w i (omega arith) h
 

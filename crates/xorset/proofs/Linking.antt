@@ -80,27 +80,27 @@ stands_linked false v e h = clash (cc)
 
 module _ (n : ℕ) (t : ℕ → ℕ) where
   -- the cells of a link are linked
-  pub link-linked : (g i : ℕ) → i < 2 ^ n → t i < 2 → linked n t g i ≡ true
-  link-linked g i hi ht = (linked_decides n t g i).1 (i, hi, (refl, ht))
+  pub link_linked : (g i : ℕ) → i < 2 ^ n → t i < 2 → linked n t g i ≡ true
+  link_linked g i hi ht = (linked_decides n t g i).1 (i, hi, (refl, ht))
 
   -- a linked cell is the cell of a link
-  pub linked-link : (g i : ℕ) → linked n t g i ≡ true → IsLinked n t g i
-  linked-link g i e = (linked_decides n t g i).0 e
+  pub linked_link : (g i : ℕ) → linked n t g i ≡ true → IsLinked n t g i
+  linked_link g i e = (linked_decides n t g i).0 e
 
   module _ (l r : ℕ) where
     -- the cells of a link are in one class
-    pub ends-together : (i x y : ℕ) → i < 2 ^ n → t i < 2 → Ends n l r i x y → Together n t l r y x
-    ends-together i x y hi ht (inl (a, b)) s closed = ap s (sym b) ∙ sym (closed i hi ht) ∙ ap s a
-    ends-together i x y hi ht (inr (a, b)) s closed = ap s (sym b) ∙ closed i hi ht ∙ ap s a
+    pub ends_together : (i x y : ℕ) → i < 2 ^ n → t i < 2 → Ends n l r i x y → Together n t l r y x
+    ends_together i x y hi ht (inl (a, b)) s closed = ap s (sym b) ∙ sym (closed i hi ht) ∙ ap s a
+    ends_together i x y hi ht (inr (a, b)) s closed = ap s (sym b) ∙ closed i hi ht ∙ ap s a
 
     -- and values that meet the links differ there by the code
-    pub ends-met : (f : ℕ → Bool) (i x y : ℕ) → Meets n t l r f (2 ^ n) → i < 2 ^ n → t i < 2 → Ends n l r i x y → f y ≡ xor (f x) (is_one (t i))
-    ends-met f i x y met hi ht (inl (a, b)) = xor_solve (f x) (f y) (is_one (t i)) (ap₂ (λ c d. xor (f c) (f d)) (sym a) (sym b) ∙ met i hi ht)
-    ends-met f i x y met hi ht (inr (a, b)) =
+    pub ends_met : (f : ℕ → Bool) (i x y : ℕ) → Meets n t l r f (2 ^ n) → i < 2 ^ n → t i < 2 → Ends n l r i x y → f y ≡ xor (f x) (is_one (t i))
+    ends_met f i x y met hi ht (inl (a, b)) = xor_solve (f x) (f y) (is_one (t i)) (ap₂ (λ c d. xor (f c) (f d)) (sym a) (sym b) ∙ met i hi ht)
+    ends_met f i x y met hi ht (inr (a, b)) =
         xor_solve (f x) (f y) (is_one (t i)) (xor_comm (f x) (f y) ∙ ap₂ (λ c d. xor (f c) (f d)) (sym b) (sym a) ∙ met i hi ht)
 
     -- a link is settled when its cells differ by its code
-    pub ends-settled : (vs : List ℕ) (i x y : ℕ) → Ends n l r i x y → get_or vs x 2 < 2 → get_or vs y 2 < 2
+    pub ends_settled : (vs : List ℕ) (i x y : ℕ) → Ends n l r i x y → get_or vs x 2 < 2 → get_or vs y 2 < 2
         → xor (is_one (get_or vs x 2)) (is_one (get_or vs y 2)) ≡ is_one (t i) → Settled n t l r vs i
-    ends-settled vs i x y (inl (a, b)) hx hy e = rw (a, b) (hx, hy, e)
-    ends-settled vs i x y (inr (a, b)) hx hy e = rw (a, b) (hy, hx, xor_comm (is_one (get_or vs y 2)) (is_one (get_or vs x 2)) ∙ e)
+    ends_settled vs i x y (inl (a, b)) hx hy e = rw (a, b) (hx, hy, e)
+    ends_settled vs i x y (inr (a, b)) hx hy e = rw (a, b) (hy, hx, xor_comm (is_one (get_or vs y 2)) (is_one (get_or vs x 2)) ∙ e)

@@ -60,16 +60,16 @@ marked_stands false v e = e
 
 module _ (n : ℕ) (t : ℕ → ℕ) (l r : ℕ) where
   -- at the start every cell is free, also one past the row
-  pub mark-none : (vs : List ℕ) (k : ℕ) → vs ≡ replicate k 2 → Marked n t l r 0 vs
-  mark-none vs k filled =
+  pub mark_none : (vs : List ℕ) (k : ℕ) → vs ≡ replicate k 2 → Marked n t l r 0 vs
+  mark_none vs k filled =
       record { left = λ i _. free (left_cell r i); right = λ i _. free (right_cell n l i); cells = λ c h. absurd (h (free c)); none = λ c h. omega (arith, free c) }
     where
       free : (c : ℕ) → get_or vs c 2 ≡ 2
       free c = elim (cases_lt c k) [ inl lt ↦ rw filled (get_or-replicate k c 2 2 lt) | inr le ↦ rw filled (get_or_past (replicate k 2) c 2 (omega (arith, length-replicate {A = ℕ} k 2))) ]
 
   -- an assignment without a link
-  pub mark-skip : (vs : List ℕ) (m : ℕ) → Marked n t l r m vs → 2 ≤ t m → Marked n t l r (m + 1) vs
-  mark-skip vs m g h =
+  pub mark_skip : (vs : List ℕ) (m : ℕ) → Marked n t l r m vs → 2 ≤ t m → Marked n t l r (m + 1) vs
+  mark_skip vs m g h =
       record {
         left = λ i hi. g.left i hi ∙ link_passed t r i m (inr h);
         right = λ i hi. g.right i hi ∙ link_passed t l i m (inr h);
@@ -78,9 +78,9 @@ module _ (n : ℕ) (t : ℕ → ℕ) (l r : ℕ) where
       }
 
   -- an assignment with a link
-  pub mark-link : (vs : List ℕ) (m : ℕ) → Marked n t l r m vs → length vs ≡ 2 * 2 ^ n → m < 2 ^ n → t m < 2
+  pub mark_link : (vs : List ℕ) (m : ℕ) → Marked n t l r m vs → length vs ≡ 2 * 2 ^ n → m < 2 ^ n → t m < 2
       → Marked n t l r (m + 1) (set (set vs (left_cell r m) 3) (right_cell n l m) 3)
-  mark-link vs m g long hm ht =
+  mark_link vs m g long hm ht =
       record {
         left = λ i hi. left i hi (at (left_cell r i));
         right = λ i hi. right i hi (at (right_cell n l i));
@@ -108,9 +108,9 @@ module _ (n : ℕ) (t : ℕ → ℕ) (l r : ℕ) where
       right i hi (inr (_, nb, q)) = q ∙ g.right i hi ∙ link_passed t l i m (inl (λ e. nb (ap (λ x. 2 ^ n + x) e)))
 
   -- a turn that marks the cells a and b
-  pub mark-turn : (vs after : List ℕ) (m a b : ℕ) → Marked n t l r m vs → length vs ≡ 2 * 2 ^ n → m < 2 ^ n → t m < 2 → a ≡ left_cell r m → b ≡ right_cell n l m
+  pub mark_turn : (vs after : List ℕ) (m a b : ℕ) → Marked n t l r m vs → length vs ≡ 2 * 2 ^ n → m < 2 ^ n → t m < 2 → a ≡ left_cell r m → b ≡ right_cell n l m
       → after ≡ set (set vs a 3) b 3 → Marked n t l r (m + 1) after
-  mark-turn vs after m a b g long hm ht ea eb e = rw (e, ea, eb) (mark-link vs m g long hm ht)
+  mark_turn vs after m a b g long hm ht ea eb e = rw (e, ea, eb) (mark_link vs m g long hm ht)
 
   -- the search begins: no cell has a value and none is to visit
   pub begin : (vs : List ℕ) → Marked n t l r (2 ^ n) vs → length vs ≡ 2 * 2 ^ n → Going n t l r vs [] (Waits n l r [])

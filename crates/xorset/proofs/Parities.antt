@@ -32,8 +32,8 @@ pub xor_left : (v p q : Bool) → xor (xor (xor v (xor p q)) p) q ≡ v
 xor_left v p q = grind (arith, cases_Bool v, cases_Bool p, cases_Bool q)
 
 -- two parities that both change differ as before
-pub xor-both : (d x y : Bool) → xor (xor d x) (xor d y) ≡ xor x y
-xor-both d x y = grind (arith, cases_Bool d, cases_Bool x, cases_Bool y)
+pub xor_both : (d x y : Bool) → xor (xor d x) (xor d y) ≡ xor x y
+xor_both d x y = grind (arith, cases_Bool d, cases_Bool x, cases_Bool y)
 
 -- values that meet a link meet it also when both change by one value
 pub xor_mixed : (a b x y v : Bool) → xor a b ≡ v → x ≡ y → xor (xor a x) (xor b y) ≡ v

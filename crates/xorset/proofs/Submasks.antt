@@ -59,16 +59,16 @@ add_below (suc n) s g b hb hs e f =
 pub next_part : (s g x : ℕ) → bit_and s g ≡ s → bit_and x g ≡ x → x < s → x ≤ bit_and (s - 1) g
 next_part s g x =
     bin_ind (λ a. (h y : ℕ) → bit_and a h ≡ a → bit_and y h ≡ y → y < a → y ≤ bit_and (a - 1) h) (λ h y e f lt. absurd (let z : ⊥ = omega arith in z))
-    (λ a ih h y e f lt. by-digit a h y e f lt (cases_eq (a % 2) 0) (ih (h / 2) (y / 2) (half_inside a h e) (half_inside y h f))) s g x
+    (λ a ih h y e f lt. by_digit a h y e f lt (cases_eq (a % 2) 0) (ih (h / 2) (y / 2) (half_inside a h e) (half_inside y h f))) s g x
   where
-    by-digit : (a h y : ℕ) → bit_and a h ≡ a → bit_and y h ≡ y → y < a → (a % 2 ≡ 0) ⊎ (a % 2 ≡ 0 → ⊥) → (y / 2 < a / 2 → y / 2 ≤ bit_and (a / 2 - 1) (h / 2)) → y ≤ bit_and (a - 1) h
-    by-digit a h y e f lt (inl even) ih =
+    by_digit : (a h y : ℕ) → bit_and a h ≡ a → bit_and y h ≡ y → y < a → (a % 2 ≡ 0) ⊎ (a % 2 ≡ 0 → ⊥) → (y / 2 < a / 2 → y / 2 ≤ bit_and (a / 2 - 1) (h / 2)) → y ≤ bit_and (a - 1) h
+    by_digit a h y e f lt (inl even) ih =
         let low = low_inside y h f in
         let half : (a - 1) / 2 ≡ a / 2 - 1 = omega arith in
         let inner = ap (λ x. bit_and x (h / 2)) half in
         let down = ih (omega arith) in
         omega (arith, and_step (a - 1) h)
-    by-digit a h y e f lt (inr odd) ih =
+    by_digit a h y e f lt (inr odd) ih =
         let half : (a - 1) / 2 ≡ a / 2 = omega arith in
         let inner = ap (λ x. bit_and x (h / 2)) half ∙ half_inside a h e in
         omega (arith, and_step (a - 1) h)

@@ -52,14 +52,14 @@ digit_high (suc k) (suc n) i h =
 -- turning a digit outside a group, and clearing the group, can be done in either order
 pub turn-clear : (k g i : ℕ) → digit k g ≡ 0 → turn k (clear g i) ≡ clear g (turn k i)
 turn-clear zero g i z =
-    by_halves _ _ (zero-half (clear g i) ∙ clear_half g i ∙ ap (clear (g / 2)) (sym (zero-half i)) ∙ sym (clear_half g (turn 0 i)))
-    (zero-low (clear g i) ∙ ap (λ x. 1 - x) (clear_low g i) ∙ middle ∙ sym (clear_low g (turn 0 i)))
+    by_halves _ _ (zero_half (clear g i) ∙ clear_half g i ∙ ap (clear (g / 2)) (sym (zero_half i)) ∙ sym (clear_half g (turn 0 i)))
+    (zero_low (clear g i) ∙ ap (λ x. 1 - x) (clear_low g i) ∙ middle ∙ sym (clear_low g (turn 0 i)))
   where
-    zero-half : (x : ℕ) → turn 0 x / 2 ≡ x / 2
-    zero-half x = omega arith
+    zero_half : (x : ℕ) → turn 0 x / 2 ≡ x / 2
+    zero_half x = omega arith
 
-    zero-low : (x : ℕ) → turn 0 x % 2 ≡ 1 - x % 2
-    zero-low x = omega arith
+    zero_low : (x : ℕ) → turn 0 x % 2 ≡ 1 - x % 2
+    zero_low x = omega arith
 
     middle : 1 - (i % 2 - g % 2) ≡ turn 0 i % 2 - g % 2
     middle = omega arith

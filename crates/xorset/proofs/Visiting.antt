@@ -8,46 +8,46 @@ use Rattle.tables.proofs.Clearing.{clear_le}
 use Rattle.xorset.specs.Search.{Ends, Followed, Going, NoValues, Remains, Touches, Visits, Went, cell_of, waiting, wanted}
 use Rattle.xorset.specs.declared.xor.Visit.{Visit}
 use Rattle.xorset.proofs.Linking.{among_last, among_more, wanted_small}
-use Rattle.xorset.proofs.Stepping.{reopen, link-none, link-same, link-pushed, link-conflict}
+use Rattle.xorset.proofs.Stepping.{reopen, link_none, link_same, link_pushed, link_conflict}
 use Rattle.xorset.proofs.Submasks.{add_below, add-clear, and_inside, next_part}
-use Rattle.xorset.proofs.Writing.{inside, written-kept, written-fewer, written-waiting}
+use Rattle.xorset.proofs.Writing.{inside, written_kept, written_fewer, written_waiting}
 
 -- tables are small
 pub points_small : (n : ℕ) → n ≤ 10 → 2 ^ n < 2048
 points_small n h = pow_below n 11 (omega arith)
 
 -- the state at a turn: from the values and the stack at the visit's start to those now, where the parts of the group from `bound` on are done
-pub record Turning (n : ℕ) (t : ℕ → ℕ) (l r : ℕ) (visit : Visit) (first-vs first-held vs held : List ℕ) (value bound : ℕ) : Type 0 where
+pub record Turning (n : ℕ) (t : ℕ → ℕ) (l r : ℕ) (visit : Visit) (first_vs first_held vs held : List ℕ) (value bound : ℕ) : Type 0 where
   pub going : Going n t l r vs held (Remains n l r held visit.group visit.base bound)
-  pub fewer : (c : ℕ) → get_or vs c 2 ≡ 3 → get_or first-vs c 2 ≡ 3
-  pub less : waiting vs + length held ≤ waiting first-vs + length first-held
+  pub fewer : (c : ℕ) → get_or vs c 2 ≡ 3 → get_or first_vs c 2 ≡ 3
+  pub less : waiting vs + length held ≤ waiting first_vs + length first_held
   pub value_is : get_or vs visit.cell 2 ≡ value
   pub small : value < 2
 
 module _ (n : ℕ) (t : ℕ → ℕ) (l r : ℕ) (visit : Visit) (visits : Visits n l r visit) where
   -- the assignment of a part of the group
-  pub assignment-below : (part : ℕ) → bit_and part visit.group ≡ part → visit.base + part < 2 ^ n
-  assignment-below part e =
+  pub assignment_below : (part : ℕ) → bit_and part visit.group ≡ part → visit.base + part < 2 ^ n
+  assignment_below part e =
       let low = and_le_r part visit.group in
       add_below n part visit.group visit.base visits.base (omega (arith, visits.group)) visits.apart e
 
   -- its cells are the cell visited and one of the other side
   ends_at : (part : ℕ) → bit_and part visit.group ≡ part
       → Ends n l r (visit.base + part) visit.cell (cell_of n l r visit.other (visit.base + part))
-  ends_at part e = visits.ends (visit.base + part) (assignment-below part e) (add-clear part visit.group visit.base visits.apart e)
+  ends_at part e = visits.ends (visit.base + part) (assignment_below part e) (add-clear part visit.group visit.base visits.apart e)
 
   -- its other cell
-  pub other-below : (part : ℕ) → bit_and part visit.group ≡ part → cell_of n l r visit.other (visit.base + part) < 2 * 2 ^ n
-  other-below part e =
+  pub other_below : (part : ℕ) → bit_and part visit.group ≡ part → cell_of n l r visit.other (visit.base + part) < 2 * 2 ^ n
+  other_below part e =
       let i = visit.base + part in
-      let below = assignment-below part e in
+      let below = assignment_below part e in
       elim (ends_at part e) [ inl (_, q) ↦ omega (arith, clear_le l i) | inr (_, q) ↦ omega (arith, clear_le r i) ]
 
   module _ (vs₀ held₀ : List ℕ) where
     -- the visit begins
-    pub turn-first : get_or vs₀ visit.cell 2 < 2 → Going n t l r vs₀ held₀ (Touches n l r held₀ visit.cell)
+    pub turn_first : get_or vs₀ visit.cell 2 < 2 → Going n t l r vs₀ held₀ (Touches n l r held₀ visit.cell)
         → Turning n t l r visit vs₀ held₀ vs₀ held₀ (get_or vs₀ visit.cell 0) (visit.group + 1)
-    turn-first valued g =
+    turn_first valued g =
         record {
           going = reopen n t l r vs₀ held₀ _ _ g (λ i hi _ o. inr (remains i hi o));
           fewer = λ c e. e;
@@ -91,13 +91,13 @@ module _ (n : ℕ) (t : ℕ → ℕ) (l r : ℕ) (visit : Visit) (visits : Visit
       -- a turn, by what following the link did
       followed : (vs' held' : List ℕ) → Followed true (t (visit.base + part)) value (cell_of n l r visit.other (visit.base + part)) vs held vs' held'
           → Turning n t l r visit vs₀ held₀ vs' held' value part
-      followed vs' held' (inl (inl none, same-vs, same-held)) =
-          rw (same-vs, same-held) (kept (link-none n t l r vs held (visit.base + part) _ _ turn.going none rest))
-      followed vs' held' (inl (inr (link, e), same-vs, same-held)) =
+      followed vs' held' (inl (inl none, same_vs, same_held)) =
+          rw (same_vs, same_held) (kept (link_none n t l r vs held (visit.base + part) _ _ turn.going none rest))
+      followed vs' held' (inl (inr (link, e), same_vs, same_held)) =
           let wants = e ∙ ap (λ v. wanted v (t (visit.base + part))) (sym turn.value_is) in
-          rw (same-vs, same-held) (kept (link-same n t l r vs held (visit.base + part) visit.cell _ _ _ turn.going (ends_at part whole) valued wants rest))
-      followed vs' held' (inr (link, wait, new-vs, new-held)) =
-          rw (new-vs ∙ ap (λ v. set vs other (wanted v (t i))) (sym turn.value_is), new-held) pushed
+          rw (same_vs, same_held) (kept (link_same n t l r vs held (visit.base + part) visit.cell _ _ _ turn.going (ends_at part whole) valued wants rest))
+      followed vs' held' (inr (link, wait, new_vs, new_held)) =
+          rw (new_vs ∙ ap (λ v. set vs other (wanted v (t i))) (sym turn.value_is), new_held) pushed
         where
           i : ℕ
           i = visit.base + part
@@ -114,26 +114,26 @@ module _ (n : ℕ) (t : ℕ → ℕ) (l r : ℕ) (visit : Visit) (visits : Visit
           pushed : Turning n t l r visit vs₀ held₀ (set vs other v) (held ++ other ∷ []) value part
           pushed =
               record {
-                going = link-pushed n t l r vs held i visit.cell other _ _ turn.going (assignment-below part whole) link (ends_at part whole) valued wait
+                going = link_pushed n t l r vs held i visit.cell other _ _ turn.going (assignment_below part whole) link (ends_at part whole) valued wait
                     (λ j o. elim (rest j o) [ inl q ↦ inl q | inr m ↦ inr (more j other m) ])
                     (λ j e. elim e [ inl q ↦ inl (inl (among_last _ held other (sym q))) | inr q ↦ inl (inr (among_last _ held other (sym q))) ]);
-                fewer = λ c e. turn.fewer c (written-fewer vs other v wait small c e);
-                less = omega (arith, turn.less, written-waiting vs other v wait small, length_push held other);
-                value_is = written-kept vs other v wait small visit.cell valued ∙ turn.value_is;
+                fewer = λ c e. turn.fewer c (written_fewer vs other v wait small c e);
+                less = omega (arith, turn.less, written_waiting vs other v wait small, length_push held other);
+                value_is = written_kept vs other v wait small visit.cell valued ∙ turn.value_is;
                 small = turn.small;
               }
 
       -- the link of the part is followed to its other cell
-      pub turn-done : (other : ℕ) (vs' held' : List ℕ) → other ≡ cell_of n l r visit.other (visit.base + part)
+      pub turn_done : (other : ℕ) (vs' held' : List ℕ) → other ≡ cell_of n l r visit.other (visit.base + part)
           → Followed true (t (visit.base + part)) value other vs held vs' held' → Turning n t l r visit vs₀ held₀ vs' held' value part
-      turn-done other vs' held' is f = followed vs' held' (subst (λ x. Followed true (t (visit.base + part)) value x vs held vs' held') is f)
+      turn_done other vs' held' is f = followed vs' held' (subst (λ x. Followed true (t (visit.base + part)) value x vs held vs' held') is f)
 
       -- which has the other value
-      pub turn-conflict : (other : ℕ) (vs' held' : List ℕ) → other ≡ cell_of n l r visit.other (visit.base + part)
+      pub turn_conflict : (other : ℕ) (vs' held' : List ℕ) → other ≡ cell_of n l r visit.other (visit.base + part)
           → Followed false (t (visit.base + part)) value other vs held vs' held' → NoValues n t l r
-      turn-conflict other vs' held' is (link, conflict, differs) =
-          link-conflict n t l r vs held (visit.base + part) visit.cell (cell_of n l r visit.other (visit.base + part)) _ turn.going
-          (assignment-below part whole) link (ends_at part whole) valued (λ e. conflict (ap (λ x. get_or vs x 2) is ∙ e))
+      turn_conflict other vs' held' is (link, conflict, differs) =
+          link_conflict n t l r vs held (visit.base + part) visit.cell (cell_of n l r visit.other (visit.base + part)) _ turn.going
+          (assignment_below part whole) link (ends_at part whole) valued (λ e. conflict (ap (λ x. get_or vs x 2) is ∙ e))
           (λ e. differs (ap (λ x. get_or vs x 2) is ∙ e ∙ ap (λ v. wanted v (t (visit.base + part))) turn.value_is))
 
     -- the last part is done: the visit is over
@@ -146,9 +146,9 @@ module _ (n : ℕ) (t : ℕ → ℕ) (l r : ℕ) (visit : Visit) (visits : Visit
         }
 
     -- the next part below is (part - 1) & group
-    pub turn-next : (vs held : List ℕ) (value part : ℕ) → bit_and part visit.group ≡ part → Turning n t l r visit vs₀ held₀ vs held value part
+    pub turn_next : (vs held : List ℕ) (value part : ℕ) → bit_and part visit.group ≡ part → Turning n t l r visit vs₀ held₀ vs held value part
         → Turning n t l r visit vs₀ held₀ vs held value (bit_and (part - 1) visit.group + 1)
-    turn-next vs held value part whole turn =
+    turn_next vs held value part whole turn =
         record {
           going = reopen n t l r vs held _ _ turn.going (λ i _ _ o. inr (elim o [ inl w ↦ inl w | inr (e, lt) ↦ inr (e, down i lt) ]));
           fewer = turn.fewer;

@@ -9,10 +9,10 @@ use Rattle.gatesets.specs.Rules.{codes, no_pair, ruled, two_parts}
 use Rattle.gatesets.specs.Splits.{Pair, Parts, code}
 use Rattle.xorset.specs.Cells.{Meets, Values, is_one, left_cell, right_cell, xor}
 use Rattle.xorset.specs.Xor.{XorGives, linked, value_code, xor_gate, xor_left_code, xor_none, xor_right_code, xor_rule, xor_value}
-use Rattle.gatesets.proofs.CodeRows.{codes-parts, codes_same, joined_of, ruled_none, ruled_parts}
+use Rattle.gatesets.proofs.CodeRows.{codes_parts, codes_same, joined_of, ruled_none, ruled_parts}
 use Rattle.xorset.proofs.Labels.{linked_cell, linked_decides, valued}
-use Rattle.xorset.proofs.XorStill.{left-still, right-still}
-use Rattle.xorset.proofs.XorValues.{only, value-met, values}
+use Rattle.xorset.proofs.XorStill.{left_still, right_still}
+use Rattle.xorset.proofs.XorValues.{only, value_met, values}
 
 -- a value that a code 0 or 1 allows is that of the code
 allowed_value : (c : ℕ) (v : Bool) → Allows c v → c < 2 → v ≡ is_one c
@@ -57,44 +57,44 @@ module _ (ask : Request) (table : List ℕ) where
     worth c = cond (ltb c (2 ^ n)) (p.first c) (p.second (c - 2 ^ n))
 
     -- a left cell has that of the first function
-    worth-left : (i : ℕ) → i < 2 ^ n → worth (left_cell r i) ≡ p.first i
-    worth-left i hi =
+    worth_left : (i : ℕ) → i < 2 ^ n → worth (left_cell r i) ≡ p.first i
+    worth_left i hi =
         let k : left_cell r i < 2 ^ n = omega (arith, clear_le r i) in
         cond-true _ _ _ (lt-ltb _ _ k) ∙ ignores_cleared n r p.first p.first_ignores _ i k hi (clear_again r i)
 
     -- a right cell has that of the second
-    worth-right : (i : ℕ) → i < 2 ^ n → worth (right_cell n l i) ≡ p.second i
-    worth-right i hi =
+    worth_right : (i : ℕ) → i < 2 ^ n → worth (right_cell n l i) ≡ p.second i
+    worth_right i hi =
         let k : clear l i < 2 ^ n = omega (arith, clear_le l i) in
         let z : right_cell n l i - 2 ^ n ≡ clear l i = omega arith in
         cond-false _ _ _ (le-ltb (right_cell n l i) (2 ^ n) (omega arith)) ∙ ap p.second z
         ∙ ignores_cleared n l p.second p.second_ignores _ i k hi (clear_again l i)
 
     -- and they meet the links
-    worth-met : Meets n t l r worth (2 ^ n)
-    worth-met i hi h =
-        ap₂ xor (worth-left i hi) (worth-right i hi)
+    worth_met : Meets n t l r worth (2 ^ n)
+    worth_met i hi h =
+        ap₂ xor (worth_left i hi) (worth_right i hi)
         ∙ allowed_value (t i) _ (subst (Allows (t i)) (joined_of xor (p.first i) (p.second i)) (p.admitted i hi)) h
 
   -- so a table that the rule refuses has no pair
-  pub xor-refused : xor_rule ask table ≡ no_pair → Pair xor_gate ask table → ⊥
-  xor-refused e p = both_ways (xor_none n t l r) (valued n t l r (worth p) (2 ^ n) (worth-met p)).1 (ruled_none _ _ _ e)
+  pub xor_refused : xor_rule ask table ≡ no_pair → Pair xor_gate ask table → ⊥
+  xor_refused e p = both_ways (xor_none n t l r) (valued n t l r (worth p) (2 ^ n) (worth_met p)).1 (ruled_none _ _ _ e)
 
   -- where no values meet the links, the rule refuses
-  pub values-none : ((f : ℕ → Bool) → Meets n t l r f (2 ^ n) → ⊥) → xor_rule ask table ≡ no_pair
-  values-none h =
+  pub values_none : ((f : ℕ → Bool) → Meets n t l r f (2 ^ n) → ⊥) → xor_rule ask table ≡ no_pair
+  values_none h =
       elim (cases_Bool (xor_none n t l r)) [
         | inl e ↦ ap (λ b. ruled b (codes n (xor_left_code n t l r)) (codes n (xor_right_code n t l r))) e
-        | inr e ↦ absurd (h (xor_value n t l r) (value-met n t l r e))
+        | inr e ↦ absurd (h (xor_value n t l r) (value_met n t l r e))
       ]
 
   -- the left row of the rule has one code for each left cell
-  left-cell : SameCleared n r (xor_left_code n t l r)
-  left-cell i j hi hj e = ap₂ value_code (linked_cell n t r i j hi hj e) (ap (xor_value n t l r) e)
+  left_in_cell : SameCleared n r (xor_left_code n t l r)
+  left_in_cell i j hi hj e = ap₂ value_code (linked_cell n t r i j hi hj e) (ap (xor_value n t l r) e)
 
   -- and the right row for each right cell
-  right-cell : SameCleared n l (xor_right_code n t l r)
-  right-cell i j hi hj e = ap₂ value_code (linked_cell n t l i j hi hj e) (ap (λ c. xor_value n t l r (2 ^ n + c)) e)
+  right_in_cell : SameCleared n l (xor_right_code n t l r)
+  right_in_cell i j hi hj e = ap₂ value_code (linked_cell n t l i j hi hj e) (ap (λ c. xor_value n t l r (2 ^ n + c)) e)
 
   -- where the rule does not refuse, they join to what the table allows: the cells of a code 0 or 1 have a link
   rows_join : xor_none n t l r ≡ false → (i : ℕ) → i < 2 ^ n → (u v : Bool) → Allows (xor_left_code n t l r i) u → Allows (xor_right_code n t l r i) v → Allows (t i) (xor u v)
@@ -102,32 +102,32 @@ module _ (ask : Request) (table : List ℕ) where
       value_allowed (t i) (xor u v)
       (λ h.
       ap₂ xor (value_is _ _ u ((linked_decides n t r i).1 (i, hi, (refl, h))) a) (value_is _ _ v ((linked_decides n t l i).1 (i, hi, (refl, h))) b)
-      ∙ value-met n t l r w i hi h)
+      ∙ value_met n t l r w i hi h)
 
   -- so the rows are parts
-  row-parts : xor_none n t l r ≡ false → Parts xor_gate ask table (codes n (xor_left_code n t l r)) (codes n (xor_right_code n t l r))
-  row-parts w =
-      codes-parts xor ask table (xor_left_code n t l r) (xor_right_code n t l r) (λ i _. value_code_lem (linked n t r i) (xor_value n t l r (left_cell r i)))
-      (λ i _. value_code_lem (linked n t l i) (xor_value n t l r (right_cell n l i))) left-cell right-cell (rows_join w) (λ k kn. left-still n t l r k kn w)
-      (λ k kn. right-still n t l r k kn w)
+  row_parts : xor_none n t l r ≡ false → Parts xor_gate ask table (codes n (xor_left_code n t l r)) (codes n (xor_right_code n t l r))
+  row_parts w =
+      codes_parts xor ask table (xor_left_code n t l r) (xor_right_code n t l r) (λ i _. value_code_lem (linked n t r i) (xor_value n t l r (left_cell r i)))
+      (λ i _. value_code_lem (linked n t l i) (xor_value n t l r (right_cell n l i))) left_in_cell right_in_cell (rows_join w) (λ k kn. left_still n t l r k kn w)
+      (λ k kn. right_still n t l r k kn w)
 
   -- the two parts of the rule
-  pub xor-parted : (left right : List ℕ) → xor_rule ask table ≡ two_parts left right → Parts xor_gate ask table left right
-  xor-parted left right e = let (w, p, q) = ruled_parts _ _ _ left right e in rw (sym p, sym q) (row-parts w)
+  pub xor_parted : (left right : List ℕ) → xor_rule ask table ≡ two_parts left right → Parts xor_gate ask table left right
+  xor_parted left right e = let (w, p, q) = ruled_parts _ _ _ left right e in rw (sym p, sym q) (row_parts w)
 
   -- and they are the parts that XOR gives
-  pub xor-gives : (left right : List ℕ) → xor_rule ask table ≡ two_parts left right → XorGives ask table left right
-  xor-gives left right e =
+  pub xor_gives : (left right : List ℕ) → xor_rule ask table ≡ two_parts left right → XorGives ask table left right
+  xor_gives left right e =
       let w : xor_none n t l r ≡ false = (ruled_parts _ _ _ left right e).0 in
       record { rule = e; values = values n t l r w; only = only n t l r w }
 
   -- the rows of any values of the cells, free where a cell has no link, are those of the rule
-  pub values-parts : (vs : List ℕ) → Values n t l r (λ c. is_one (get_or vs c 2))
+  pub values_parts : (vs : List ℕ) → Values n t l r (λ c. is_one (get_or vs c 2))
       → ((i : ℕ) → i < 2 ^ n → get_or vs (left_cell r i) 2 ≡ value_code (linked n t r i) (is_one (get_or vs (left_cell r i) 2)))
       → ((i : ℕ) → i < 2 ^ n → get_or vs (right_cell n l i) 2 ≡ value_code (linked n t l i) (is_one (get_or vs (right_cell n l i) 2)))
       → (left right : List ℕ) → left ≡ codes n (λ i. get_or vs (left_cell r i) 2) → right ≡ codes n (λ i. get_or vs (right_cell n l i) 2)
       → xor_rule ask table ≡ two_parts left right
-  values-parts vs h a b left right p q =
+  values_parts vs h a b left right p q =
       ap (λ x. ruled x (codes n (xor_left_code n t l r)) (codes n (xor_right_code n t l r))) w
       ∙ ap₂ two_parts
       (codes_same n _ _ (λ i hi. ap (value_code (linked n t r i)) (sym (same (left_cell r i))) ∙ sym (a i hi)) ∙ sym p)

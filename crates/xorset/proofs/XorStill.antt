@@ -10,7 +10,7 @@ use Rattle.xorset.specs.Xor.{linked, value_code, xor_left_code, xor_none, xor_ri
 use Rattle.xorset.proofs.Parities.{xor_left_same, xor_right_same}
 use Rattle.xorset.proofs.Turning.{turn, turn-turn, turn_below, turn_high, digit_high, turn-clear, turn_lt, same_wider, same_turn, turn_same}
 use Rattle.xorset.proofs.Labels.{IsLinked, linked_decides}
-use Rattle.xorset.proofs.XorValues.{value-met, values, only}
+use Rattle.xorset.proofs.XorValues.{value_met, values, only}
 
 -- a digit that is not 0 is 1
 one_from : (k g : ℕ) → (digit k g ≡ 0 → ⊥) → digit k g ≡ 1
@@ -27,51 +27,51 @@ module _ (n : ℕ) (t : ℕ → ℕ) (l r k : ℕ) (kn : k < n) (w : xor_none n 
   val = xor_value n t l r
 
   -- whether a cell has links does not depend on the variable
-  linked-still : (h : ℕ) → SameCleared n (2 ^ k) (linked n t h)
-  linked-still h = within_still n h (2 ^ k) (λ m. ltb (t m) 2) (λ i j hi hj e. ap (λ c. ltb c 2) (ig i j hi hj e))
+  linked_still : (h : ℕ) → SameCleared n (2 ^ k) (linked n t h)
+  linked_still h = within_still n h (2 ^ k) (λ m. ltb (t m) 2) (λ i j hi hj e. ap (λ c. ltb c 2) (ig i j hi hj e))
 
   -- a variable of the left group: two left cells that it alone tells apart have a neighbour in common
-  left-joined : digit k l ≡ 1 → (i j : ℕ) → i < 2 ^ n → j < 2 ^ n → clear (2 ^ k) i ≡ clear (2 ^ k) j → IsLinked n t r i → val (left_cell r i) ≡ val (left_cell r j)
-  left-joined o i j hi hj e (m, hm, (a, lt)) =
+  left_joined : digit k l ≡ 1 → (i j : ℕ) → i < 2 ^ n → j < 2 ^ n → clear (2 ^ k) i ≡ clear (2 ^ k) j → IsLinked n t r i → val (left_cell r i) ≡ val (left_cell r j)
+  left_joined o i j hi hj e (m, hm, (a, lt)) =
       let (x, hx, c, d) = diamond n (2 ^ k) r i j m hi hj hm e a in
       let q : t m ≡ t x = ig m x hm hx c in
       ap val a
-      ∙ xor_left_same _ _ _ _ (is_one (t m)) (value-met n t l r w m hm lt) (value-met n t l r w x hx (subst (λ v. v < 2) q lt) ∙ ap is_one (sym q))
+      ∙ xor_left_same _ _ _ _ (is_one (t m)) (value_met n t l r w m hm lt) (value_met n t l r w x hx (subst (λ v. v < 2) q lt) ∙ ap is_one (sym q))
       (ap (λ y. val (2 ^ n + y)) (same_wider k l m x o c))
       ∙ ap val (sym d)
 
   -- and a variable of the right group likewise
-  right-joined : digit k r ≡ 1 → (i j : ℕ) → i < 2 ^ n → j < 2 ^ n → clear (2 ^ k) i ≡ clear (2 ^ k) j → IsLinked n t l i → val (right_cell n l i) ≡ val (right_cell n l j)
-  right-joined o i j hi hj e (m, hm, (a, lt)) =
+  right_joined : digit k r ≡ 1 → (i j : ℕ) → i < 2 ^ n → j < 2 ^ n → clear (2 ^ k) i ≡ clear (2 ^ k) j → IsLinked n t l i → val (right_cell n l i) ≡ val (right_cell n l j)
+  right_joined o i j hi hj e (m, hm, (a, lt)) =
       let (x, hx, c, d) = diamond n (2 ^ k) l i j m hi hj hm e a in
       let q : t m ≡ t x = ig m x hm hx c in
       ap (λ y. val (2 ^ n + y)) a
-      ∙ xor_right_same _ _ _ _ (is_one (t m)) (value-met n t l r w m hm lt) (value-met n t l r w x hx (subst (λ v. v < 2) q lt) ∙ ap is_one (sym q))
+      ∙ xor_right_same _ _ _ _ (is_one (t m)) (value_met n t l r w m hm lt) (value_met n t l r w x hx (subst (λ v. v < 2) q lt) ∙ ap is_one (sym q))
       (ap val (same_wider k r m x o c))
       ∙ ap (λ y. val (2 ^ n + y)) (sym d)
 
   -- a variable of neither group: to turn its digit carries cells over to cells and classes to classes
   module _ (zl : digit k l ≡ 0) (zr : digit k r ≡ 0) where
     -- the left cell goes to that of the turned assignment
-    turn-left : (i : ℕ) → turn k (left_cell r i) ≡ left_cell r (turn k i)
-    turn-left i = turn-clear k r i zr
+    turn_left : (i : ℕ) → turn k (left_cell r i) ≡ left_cell r (turn k i)
+    turn_left i = turn-clear k r i zr
 
     -- the right cell too
-    turn-right : (i : ℕ) → turn k (right_cell n l i) ≡ right_cell n l (turn k i)
-    turn-right i = turn_high k n (clear l i) kn ∙ ap (λ x. 2 ^ n + x) (turn-clear k l i zl)
+    turn_right : (i : ℕ) → turn k (right_cell n l i) ≡ right_cell n l (turn k i)
+    turn_right i = turn_high k n (clear l i) kn ∙ ap (λ x. 2 ^ n + x) (turn-clear k l i zl)
 
     -- which has the same code
-    turn-code : (i : ℕ) → i < 2 ^ n → t (turn k i) ≡ t i
-    turn-code i hi = sym (ig i (turn k i) hi (turn_below k n i kn hi) (turn_same k i))
+    turn_code : (i : ℕ) → i < 2 ^ n → t (turn k i) ≡ t i
+    turn_code i hi = sym (ig i (turn k i) hi (turn_below k n i kn hi) (turn_same k i))
 
     -- so a set that no link leaves goes to another
-    turn-closed : (s : ℕ → Bool) → Closed n t l r s → Closed n t l r (λ c. s (turn k c))
-    turn-closed s h i hi lt =
-        ap s (turn-left i) ∙ h (turn k i) (turn_below k n i kn hi) (subst (λ v. v < 2) (sym (turn-code i hi)) lt) ∙ sym (ap s (turn-right i))
+    turn_closed : (s : ℕ → Bool) → Closed n t l r s → Closed n t l r (λ c. s (turn k c))
+    turn_closed s h i hi lt =
+        ap s (turn_left i) ∙ h (turn k i) (turn_below k n i kn hi) (subst (λ v. v < 2) (sym (turn_code i hi)) lt) ∙ sym (ap s (turn_right i))
 
     -- a link does not leave the cells with one digit of the variable
-    same-digit : (c d : ℕ) → Together n t l r c d → digit k c ≡ digit k d
-    same-digit c d h =
+    same_digit : (c d : ℕ) → Together n t l r c d → digit k c ≡ digit k d
+    same_digit c d h =
         sym
         (eqb-true _ _
         (sym
@@ -86,54 +86,54 @@ module _ (n : ℕ) (t : ℕ → ℕ) (l r k : ℕ) (kn : k < n) (w : xor_none n 
     turned =
         record {
           met = λ i hi lt.
-              ap₂ xor (ap val (turn-left i)) (ap val (turn-right i))
-              ∙ value-met n t l r w (turn k i) (turn_below k n i kn hi) (subst (λ v. v < 2) (sym (turn-code i hi)) lt) ∙ ap is_one (turn-code i hi);
+              ap₂ xor (ap val (turn_left i)) (ap val (turn_right i))
+              ∙ value_met n t l r w (turn k i) (turn_below k n i kn hi) (subst (λ v. v < 2) (sym (turn_code i hi)) lt) ∙ ap is_one (turn_code i hi);
           lowest = λ c h. (values n t l r w).lowest (turn k c) (λ d g. least c h d g);
         }
       where
         least : (c : ℕ) → ((d : ℕ) → Together n t l r c d → c ≤ d) → (d : ℕ) → Together n t l r (turn k c) d → turn k c ≤ d
         least c h d g =
-            let far : Together n t l r c (turn k d) = λ s q. ap s (sym (turn-turn k c)) ∙ g (λ x. s (turn k x)) (turn-closed s q) in
+            let far : Together n t l r c (turn k d) = λ s q. ap s (sym (turn-turn k c)) ∙ g (λ x. s (turn k x)) (turn_closed s q) in
             let le : c ≤ turn k d = h (turn k d) far in
             elim (cases_eq c (turn k d)) [
               | inl e ↦ omega (arith, ap (turn k) e, turn-turn k d)
-              | inr e ↦ omega (arith, turn_lt k c (turn k d) (same-digit c (turn k d) far) (omega arith), turn-turn k d)
+              | inr e ↦ omega (arith, turn_lt k c (turn k d) (same_digit c (turn k d) far) (omega arith), turn-turn k d)
             ]
 
     -- so they are the rule's
-    turn-value : (c : ℕ) → val (turn k c) ≡ val c
-    turn-value = only n t l r w (λ c. val (turn k c)) turned
+    turn_value : (c : ℕ) → val (turn k c) ≡ val c
+    turn_value = only n t l r w (λ c. val (turn k c)) turned
 
     -- and two left cells that the variable alone tells apart have one value
-    left-turned : (i j : ℕ) → clear (2 ^ k) i ≡ clear (2 ^ k) j → val (left_cell r i) ≡ val (left_cell r j)
-    left-turned i j e =
+    left_turned : (i j : ℕ) → clear (2 ^ k) i ≡ clear (2 ^ k) j → val (left_cell r i) ≡ val (left_cell r j)
+    left_turned i j e =
         elim (same_turn k i j e) [
           | inl q ↦ ap (λ x. val (left_cell r x)) q
-          | inr q ↦ sym (turn-value (left_cell r i)) ∙ ap val (turn-left i) ∙ ap (λ x. val (left_cell r x)) q
+          | inr q ↦ sym (turn_value (left_cell r i)) ∙ ap val (turn_left i) ∙ ap (λ x. val (left_cell r x)) q
         ]
 
     -- and two right cells
-    right-turned : (i j : ℕ) → clear (2 ^ k) i ≡ clear (2 ^ k) j → val (right_cell n l i) ≡ val (right_cell n l j)
-    right-turned i j e =
+    right_turned : (i j : ℕ) → clear (2 ^ k) i ≡ clear (2 ^ k) j → val (right_cell n l i) ≡ val (right_cell n l j)
+    right_turned i j e =
         elim (same_turn k i j e) [
           | inl q ↦ ap (λ x. val (right_cell n l x)) q
-          | inr q ↦ sym (turn-value (right_cell n l i)) ∙ ap val (turn-right i) ∙ ap (λ x. val (right_cell n l x)) q
+          | inr q ↦ sym (turn_value (right_cell n l i)) ∙ ap val (turn_right i) ∙ ap (λ x. val (right_cell n l x)) q
         ]
 
   -- the left part does not depend on the variable
-  pub left-still : SameCleared n (2 ^ k) (xor_left_code n t l r)
-  left-still i j hi hj e = code_same _ _ _ _ (linked-still r i j hi hj e) (λ b. go ((linked_decides n t r i).0 b) (cases_eq (digit k r) 0) (cases_eq (digit k l) 0))
+  pub left_still : SameCleared n (2 ^ k) (xor_left_code n t l r)
+  left_still i j hi hj e = code_same _ _ _ _ (linked_still r i j hi hj e) (λ b. go ((linked_decides n t r i).0 b) (cases_eq (digit k r) 0) (cases_eq (digit k l) 0))
     where
       go : IsLinked n t r i → (digit k r ≡ 0) ⊎ (digit k r ≡ 0 → ⊥) → (digit k l ≡ 0) ⊎ (digit k l ≡ 0 → ⊥) → val (left_cell r i) ≡ val (left_cell r j)
-      go m (inl zr) (inl zl) = left-turned zl zr i j e
-      go m (inl zr) (inr ol) = left-joined (one_from k l ol) i j hi hj e m
+      go m (inl zr) (inl zl) = left_turned zl zr i j e
+      go m (inl zr) (inr ol) = left_joined (one_from k l ol) i j hi hj e m
       go m (inr o) q = ap val (same_wider k r i j (one_from k r o) e)
 
   -- nor does the right part
-  pub right-still : SameCleared n (2 ^ k) (xor_right_code n t l r)
-  right-still i j hi hj e = code_same _ _ _ _ (linked-still l i j hi hj e) (λ b. go ((linked_decides n t l i).0 b) (cases_eq (digit k l) 0) (cases_eq (digit k r) 0))
+  pub right_still : SameCleared n (2 ^ k) (xor_right_code n t l r)
+  right_still i j hi hj e = code_same _ _ _ _ (linked_still l i j hi hj e) (λ b. go ((linked_decides n t l i).0 b) (cases_eq (digit k l) 0) (cases_eq (digit k r) 0))
     where
       go : IsLinked n t l i → (digit k l ≡ 0) ⊎ (digit k l ≡ 0 → ⊥) → (digit k r ≡ 0) ⊎ (digit k r ≡ 0 → ⊥) → val (right_cell n l i) ≡ val (right_cell n l j)
-      go m (inl zl) (inl zr) = right-turned zl zr i j e
-      go m (inl zl) (inr o) = right-joined (one_from k r o) i j hi hj e m
+      go m (inl zl) (inl zr) = right_turned zl zr i j e
+      go m (inl zl) (inr o) = right_joined (one_from k r o) i j hi hj e m
       go m (inr o) q = ap (λ y. val (2 ^ n + y)) (same_wider k l i j (one_from k l o) e)

@@ -43,45 +43,45 @@ module _ (n : ℕ) (t : ℕ → ℕ) (l r : ℕ) (w : xor_none n t l r ≡ false
   root c = ((links n t l r (2 ^ n)).label c).root
 
   -- the rule's values meet the links
-  pub value-met : Meets n t l r (xor_value n t l r) (2 ^ n)
-  value-met i hi h = (consistent n t l r (2 ^ n) w i hi h).1
+  pub value_met : Meets n t l r (xor_value n t l r) (2 ^ n)
+  value_met i hi h = (consistent n t l r (2 ^ n) w i hi h).1
 
   -- and all values that meet them follow the labels
   follows : (f : ℕ → Bool) → Meets n t l r f (2 ^ n) → Follows f (links n t l r (2 ^ n)).label
   follows f g = (valued n t l r f (2 ^ n) g).0
 
   -- the value of a root is 0
-  root-zero : (c : ℕ) → xor_value n t l r (root c) ≡ false
-  root-zero c = xor_own _ _ (follows (xor_value n t l r) value-met c)
+  root_zero : (c : ℕ) → xor_value n t l r (root c) ≡ false
+  root_zero c = xor_own _ _ (follows (xor_value n t l r) value_met c)
 
   -- a cell is in one class with its root: values that differ from the rule's by a set that no link leaves meet the links too
-  to-root : (c : ℕ) → Together n t l r c (root c)
-  to-root c s closed =
+  to_root : (c : ℕ) → Together n t l r c (root c)
+  to_root c s closed =
       let v : ℕ → Bool = xor_value n t l r in
-      xor_cancel (v c) (v (root c)) (s c) (s (root c)) (root-zero c)
-      (follows (λ x. xor (v x) (s x)) (λ i hi h. xor_mixed _ _ _ _ _ (value-met i hi h) (closed i hi h)) c)
+      xor_cancel (v c) (v (root c)) (s c) (s (root c)) (root_zero c)
+      (follows (λ x. xor (v x) (s x)) (λ i hi h. xor_mixed _ _ _ _ _ (value_met i hi h) (closed i hi h)) c)
 
   -- cells of one class have one root: no link leaves the cells of a root
-  root-same : (c d : ℕ) → Together n t l r c d → root c ≡ root d
-  root-same c d h =
+  root_same : (c d : ℕ) → Together n t l r c d → root c ≡ root d
+  root_same c d h =
       sym (eqb-true _ _ (sym (h (λ x. eqb (root x) (root c)) (λ i hi k. ap (λ x. eqb x (root c)) (consistent n t l r (2 ^ n) w i hi k).0)) ∙ eq-eqb _ _ refl))
 
   -- so the root is the lowest cell of its class
-  root-lowest : (c d : ℕ) → Together n t l r (root c) d → root c ≤ d
-  root-lowest c d h =
-      let e : root c ≡ root d = root-same c d (λ s k. to-root c s k ∙ h s k) in
+  root_lowest : (c d : ℕ) → Together n t l r (root c) d → root c ≤ d
+  root_lowest c d h =
+      let e : root c ≡ root d = root_same c d (λ s k. to_root c s k ∙ h s k) in
       omega (arith, e, down n t l r (2 ^ n) d)
 
   -- the rule's values are values of the cells
   pub values : Values n t l r (xor_value n t l r)
   values =
       record {
-        met = value-met;
+        met = value_met;
         lowest = λ c h.
-            let e : root c ≡ c = omega (arith, h (root c) (to-root c), down n t l r (2 ^ n) c) in
-            subst (λ x. xor_value n t l r x ≡ false) e (root-zero c);
+            let e : root c ≡ c = omega (arith, h (root c) (to_root c), down n t l r (2 ^ n) c) in
+            subst (λ x. xor_value n t l r x ≡ false) e (root_zero c);
       }
 
   -- and there are no others
   pub only : (f : ℕ → Bool) → Values n t l r f → (c : ℕ) → f c ≡ xor_value n t l r c
-  only f h c = follows f h.met c ∙ xor_zero _ _ (h.lowest (root c) (root-lowest c))
+  only f h c = follows f h.met c ∙ xor_zero _ _ (h.lowest (root c) (root_lowest c))

@@ -2,7 +2,7 @@
 use Rattle.std.proofs.Common.{not, length, sym, ap}
 use Rattle.gatesets.specs.Splits.{code}
 use Rattle.tables.proofs.Passing.{clash}
-use Rattle.orset.proofs.Laying.{left_passed, left-free, left-fails, left_laid}
+use Rattle.orset.proofs.Laying.{left_passed, left_free, left_fails, left_laid}
 use Rattle.orset.proofs.or.lay_left_ones.Goals as goal
 
 pub loop-index-preserved : goal.loop-index-preserved
@@ -21,7 +21,7 @@ loop-index-preserved c =
       | goal.else-table-index-eq1 w ↦
           elim w.else-table-index-eq1.branch [
             | goal.else-table-index-eq1-via-then-table-index-eq1+else-rights-clear-group-eq0 v ↦
-                left-free m t l r i lefts rights c.loop-index-test.true c.requires.0.1 c.requires.2 _ _ w.lefts-is v.clear-group.ensures
+                left_free m t l r i lefts rights c.loop-index-test.true c.requires.0.1 c.requires.2 _ _ w.lefts-is v.clear-group.ensures
                 v.if-rights-clear-group-eq0.false c.loop-index.invariant
             | goal.else-table-index-eq1-via-else-table-index-eq1 v ↦
                 left_passed m t l r i lefts rights c.loop-index-test.true c.requires.0.1 c.requires.2 _ w.lefts-is v.if-table-index-eq1.false c.loop-index.invariant
@@ -32,7 +32,7 @@ pub returns-then-lefts-cell-eq0 : goal.returns-then-lefts-cell-eq0
 returns-then-lefts-cell-eq0 c =
     record {
       exact =
-          sym (ap not (left-fails (length c.args.table.now) (code c.args.table.now) c.args.left c.args.right c.loop-index.index c.loop-index.lefts
+          sym (ap not (left_fails (length c.args.table.now) (code c.args.table.now) c.args.left c.args.right c.loop-index.index c.loop-index.lefts
           c.args.rights.now c.loop-index-test.true c.requires.0.1 c.requires.2 _ _ c.clear-group.ensures c.clear-group-cell.ensures
           c.if-table-index-eq1.true c.if-rights-clear-group-eq0.true c.if-lefts-cell-eq0.true c.loop-index.invariant));
       laid = λ e. clash (cc);

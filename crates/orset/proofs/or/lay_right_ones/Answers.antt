@@ -3,8 +3,8 @@ use Rattle.std.proofs.Common.{length, refl}
 use Rattle.std.proofs.lemmas.Bool.{ne_eqb}
 use Rattle.gatesets.specs.Splits.{code}
 use Rattle.orset.specs.Cells.{right_one_at, zeros_laid}
-use Rattle.orset.proofs.Marks.{turn-kept, turn_more}
-use Rattle.orset.proofs.Laying.{right-free, right_needs}
+use Rattle.orset.proofs.Marks.{turn_kept, turn_more}
+use Rattle.orset.proofs.Laying.{right_free, right_needs}
 use Rattle.orset.proofs.or.lay_right_ones.Goals as goal
 
 pub loop-index-preserved : goal.loop-index-preserved
@@ -23,12 +23,12 @@ loop-index-preserved c =
       | goal.else-table-index-eq1 w ↦
           elim w.else-table-index-eq1.branch [
             | goal.else-table-index-eq1-via-then-table-index-eq1+else-lefts-clear-group-ne1 v ↦
-                turn-kept l (right_one_at m t l r) 1 (zeros_laid m t l) m i c.loop-index.rights _ w.rights-is
-                (right-free m t l r i c.args.lefts.now c.loop-index.rights c.loop-index-test.true c.requires.0.0 c.requires.1 _ v.clear-group.ensures
+                turn_kept l (right_one_at m t l r) 1 (zeros_laid m t l) m i c.loop-index.rights _ w.rights-is
+                (right_free m t l r i c.args.lefts.now c.loop-index.rights c.loop-index-test.true c.requires.0.0 c.requires.1 _ v.clear-group.ensures
                 v.if-lefts-clear-group-ne1.false)
                 c.loop-index.invariant
             | goal.else-table-index-eq1-via-else-table-index-eq1 v ↦
-                turn-kept l (right_one_at m t l r) 1 (zeros_laid m t l) m i c.loop-index.rights _ w.rights-is
+                turn_kept l (right_one_at m t l r) 1 (zeros_laid m t l) m i c.loop-index.rights _ w.rights-is
                 (rw (ne_eqb (t i) 1 v.if-table-index-eq1.false) refl) c.loop-index.invariant
           ]
     ]

@@ -3,7 +3,7 @@ use Rattle.std.proofs.Common.{ℕ, Bool, length}
 use Rattle.std.proofs.lemmas.Bool.{eq-eqb, ne_eqb}
 use Rattle.gatesets.specs.Splits.{code}
 use Rattle.orset.specs.Cells.{zero_at}
-use Rattle.orset.proofs.Marks.{turn-kept, turn_more}
+use Rattle.orset.proofs.Marks.{turn_kept, turn_more}
 use Rattle.orset.proofs.or.lay_zeros.Goals as goal
 
 pub loop-index-preserved : goal.loop-index-preserved
@@ -19,7 +19,7 @@ loop-index-preserved c =
             (eq-eqb _ _ w.if-table-index-eq0.true) c.loop-index-test.true c.loop-index.invariant.1,
       )
       | goal.else-table-index-eq0 w ↦ (
-        turn-kept c.args.right zero 0 (λ _. 2) m i c.loop-index.lefts _ w.lefts-is (ne_eqb _ _ w.if-table-index-eq0.false) c.loop-index.invariant.0,
-        turn-kept c.args.left zero 0 (λ _. 2) m i c.loop-index.rights _ w.rights-is (ne_eqb _ _ w.if-table-index-eq0.false) c.loop-index.invariant.1,
+        turn_kept c.args.right zero 0 (λ _. 2) m i c.loop-index.lefts _ w.lefts-is (ne_eqb _ _ w.if-table-index-eq0.false) c.loop-index.invariant.0,
+        turn_kept c.args.left zero 0 (λ _. 2) m i c.loop-index.rights _ w.rights-is (ne_eqb _ _ w.if-table-index-eq0.false) c.loop-index.invariant.1,
       )
     ]

@@ -1,7 +1,7 @@
 -- Each turn writes a code of either part; at the end both are written.
 use Rattle.std.proofs.Common.{◌<◌, length, arith}
 use Rattle.tables.proofs.Clearing.{clear_le}
-use Rattle.orset.proofs.Writing.{write-all, write-more}
+use Rattle.orset.proofs.Writing.{write_all, write_more}
 use Rattle.orset.proofs.or.write_codes.Goals as goal
 
 pub overflow-cast-left : goal.overflow-cast-left
@@ -17,15 +17,15 @@ overflow-cast-right c =
 
 pub loop-index-preserved : goal.loop-index-preserved
 loop-index-preserved c = (
-  write-more c.args.lefts.now c.args.ask.right c.args.left.now c.loop-index.left c.loop-index.index c.clear-group.result
+  write_more c.args.lefts.now c.args.ask.right c.args.left.now c.loop-index.left c.loop-index.index c.clear-group.result
       c.loop-index.invariant.0 c.clear-group.ensures c.loop-index-test.true,
-  write-more c.args.rights.now c.args.ask.left c.args.right.now c.loop-index.right c.loop-index.index c.clear-group-in-loop-index.result
+  write_more c.args.rights.now c.args.ask.left c.args.right.now c.loop-index.right c.loop-index.index c.clear-group-in-loop-index.result
       c.loop-index.invariant.1 c.clear-group-in-loop-index.ensures (omega (arith, c.requires.0.2)),
 )
 
 pub returns : goal.returns
 returns c =
     record {
-      left = write-all c.args.lefts.now c.args.ask.right c.args.left.now c.loop-index.left c.loop-index.index c.loop-index.invariant.0 (omega arith);
-      right = write-all c.args.rights.now c.args.ask.left c.args.right.now c.loop-index.right c.loop-index.index c.loop-index.invariant.1 (omega (arith, c.requires.0.2));
+      left = write_all c.args.lefts.now c.args.ask.right c.args.left.now c.loop-index.left c.loop-index.index c.loop-index.invariant.0 (omega arith);
+      right = write_all c.args.rights.now c.args.ask.left c.args.right.now c.loop-index.right c.loop-index.index c.loop-index.invariant.1 (omega (arith, c.requires.0.2));
     }

@@ -7,7 +7,7 @@ use Rattle.questions.specs.Layouts.{entry_length, table}
 use Rattle.questions.specs.Writing.{form_for, write_checks}
 use Rattle.questions.specs.Dictionaries.{any_table, any_entry}
 use Rattle.questions.proofs.Answering.{entry_by}
-use Rattle.questions.proofs.Accepting.{passed_bounds, front-entry, front-form, last_returns}
+use Rattle.questions.proofs.Accepting.{passed_bounds, front_entry, front_form, last_returns}
 use Rattle.questions.proofs.append.append_entry.Goals as goal
 
 pub returns : goal.returns
@@ -19,9 +19,9 @@ returns c =
     let told = c.in-ok-size.ensures in
     let ok = answered_ok (first (write_checks n codes any_entry)) (entry_length n (form_for n codes)) size (sym told.answer) in
     let bytes = c.in-ok-extend-from-slice.ensures.items in
-    let form = c.heading_form.ensures.1 ∙ front-form n codes _ out told.out (passed_bounds n codes any_entry ok.0).1 in
+    let form = c.heading_form.ensures.1 ∙ front_form n codes _ out told.out (passed_bounds n codes any_entry ok.0).1 in
     let grown = bytes ∙ ap (λ k. vec_items c.args.dictionary.now ++ take k out) (sub-zero size)
-    ∙ ap (λ xs. vec_items c.args.dictionary.now ++ xs) (front-entry n codes _ out told.out size ok.1) in
+    ∙ ap (λ xs. vec_items c.args.dictionary.now ++ xs) (front_entry n codes _ out told.out size ok.1) in
     let entry_is = ap₂ (entry_by n) form (c.len.ensures ∙ c.extend-from-slice.new.self.ok.0) in
     let few : 2 ^ n ≤ any_table = pow_mono {i = n} {j = 10} (passed_bounds n codes any_entry ok.0).1 in
     let there = last_returns n codes any_entry (vec_items c.args.dictionary.now) (vec_items c.extend-from-slice.new.self) ok.0 grown few in

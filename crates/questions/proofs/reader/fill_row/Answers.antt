@@ -1,7 +1,7 @@
 -- Each turn writes one code of the table; at the end the row begins with the table.
 use Rattle.std.proofs.Common.{◌≡◌, ◌+◌, ◌^◌, ◌++◌, drop, ap, ◌∙◌, zero-add, arith}
 use lib.Seq.{paste}
-use Rattle.tables.proofs.Fills.{fill_more, fill-all}
+use Rattle.tables.proofs.Fills.{fill_more, fill_all}
 use Rattle.questions.specs.Layouts.{code, table}
 use Rattle.questions.proofs.reader.fill_row.Goals as goal
 
@@ -16,5 +16,5 @@ returns c =
     let n = c.args.layout.variables in
     let all : c.loop-i.i ≡ 2 ^ n = omega (arith, c.args.layout.sized) in
     let filled = c.loop-i.invariant ∙ ap (paste c.args.row.now 0 (table n c.args.layout.form c.args.bytes.now)) all in
-    fill-all (code n c.args.layout.form c.args.bytes.now) (2 ^ n) c.args.row.now 0 c.loop-i.row filled
+    fill_all (code n c.args.layout.form c.args.bytes.now) (2 ^ n) c.args.row.now 0 c.loop-i.row filled
     ∙ ap (λ k. table n c.args.layout.form c.args.bytes.now ++ drop k c.args.row.now) (zero-add (2 ^ n))

@@ -2,7 +2,7 @@
 use Rattle.std.proofs.Common.{◌≡◌, ℕ, ◌+◌, get_or, sym, ◌∙◌, subst, arith}
 use lib.Bits.{bit_and}
 use Rattle.questions.proofs.Rows.{row_most}
-use Rattle.questions.proofs.Bytewise.{none_within, none-looked, found-above, none_above}
+use Rattle.questions.proofs.Bytewise.{none_within, none_looked, found_above, none_above}
 use Rattle.questions.proofs.reader.lower_above_upper.Goals as goal
 
 pub above-in-byte-above-requires : goal.above-in-byte-above-requires
@@ -12,7 +12,7 @@ above-in-byte-above-requires c =
 
 pub returns-then-is-some : goal.returns-then-is-some
 returns-then-is-some c =
-    found-above c.args.layout.variables c.args.layout.form c.args.bytes.now c.loop-byte.byte c.above-in-byte-above.result c.loop-byte.invariant
+    found_above c.args.layout.variables c.args.layout.form c.args.bytes.now c.loop-byte.byte c.above-in-byte-above.result c.loop-byte.invariant
     (sym c.is-some.ensures ∙ c.if-is-some.true) c.above-in-byte-above.ensures
 
 pub loop-byte-preserved : goal.loop-byte-preserved
@@ -24,7 +24,7 @@ loop-byte-preserved c =
     let low : ℕ = get_or bytes (1 + byte) 0 in
     elim c.if-low-bytes.branch [
       | goal.then-low-bytes+else-is-some w ↦
-          none-looked n form bytes byte w.above-in-byte-above.result c.loop-byte.invariant (sym w.is-some.ensures ∙ w.if-is-some.false) w.above-in-byte-above.ensures
+          none_looked n form bytes byte w.above-in-byte-above.result c.loop-byte.invariant (sym w.is-some.ensures ∙ w.if-is-some.false) w.above-in-byte-above.ensures
       | goal.else-low-bytes w ↦
           none_within n form bytes byte c.loop-byte.invariant (subst (λ start. bit_and low (get_or bytes (start + byte) 0) ≡ low) c.args.layout.sized.1 w.if-low-bytes.false)
     ]

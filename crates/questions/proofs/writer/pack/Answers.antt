@@ -1,7 +1,7 @@
 -- One digit more: its weight is the power of two that the digits so far stay below.
 use Rattle.std.proofs.Common.{ℕ, ◌+◌, ◌<◌, get_or, arith}
 use Rattle.questions.specs.Writing.{digit_of, packed}
-use Rattle.questions.proofs.Packing.{digit_le, packed_more, packed-fits}
+use Rattle.questions.proofs.Packing.{digit_le, packed_more, packed_fits}
 use Rattle.questions.proofs.writer.pack.Goals as goal
 
 abbrev digitAt : goal.After-digit-of → ℕ → ℕ
@@ -14,5 +14,5 @@ loop-k-preserved c =
 pub overflow-add-byte : goal.overflow-add-byte
 overflow-add-byte c =
     let sum = loop-k-preserved c in
-    let fits : packed (digitAt c) (c.loop-k.k + 1) < 256 = packed-fits (digitAt c) (λ k. digit_le c.args.side _) (c.loop-k.k + 1) (omega (arith, c.requires.count)) in
+    let fits : packed (digitAt c) (c.loop-k.k + 1) < 256 = packed_fits (digitAt c) (λ k. digit_le c.args.side _) (c.loop-k.k + 1) (omega (arith, c.requires.count)) in
     omega arith

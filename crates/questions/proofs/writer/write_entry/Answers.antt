@@ -4,7 +4,7 @@ use Rattle.std.proofs.lemmas.Result.{err_from_is_err_and}
 use Rattle.tables.specs.Checks.{answered}
 use Rattle.questions.specs.Layouts.{entry_length}
 use Rattle.questions.specs.Writing.{form_for}
-use Rattle.questions.proofs.Accepting.{written-answer, written_out, written-returns}
+use Rattle.questions.proofs.Accepting.{written_answer, written_out, written_returns}
 use Rattle.questions.proofs.writer.write_entry.Goals as goal
 
 pub returns-in-err-layout : goal.returns-in-err-layout
@@ -12,7 +12,7 @@ returns-in-err-layout c =
     let p = err_from_is_err_and c.from-residual.result c.from-residual.ensures.1 in
     let n = c.args.variables in
     let refused = ap (λ r. answered r (entry_length n (form_for n c.args.codes.now))) c.in-err-layout.ensures in
-    rw (p.1, p.2) (record { answer = sym refused; out = refl; reads-back = tt })
+    rw (p.1, p.2) (record { answer = sym refused; out = refl; reads_back = tt })
 
 pub returns : goal.returns
 returns c =
@@ -22,7 +22,7 @@ returns c =
     let layout = c.in-ok-layout.layout in
     let ok = c.in-ok-layout.ensures in
     record {
-      answer = written-answer n codes out layout ok;
+      answer = written_answer n codes out layout ok;
       out = written_out n codes out layout ok c.put-entry.new.out c.put-entry.ensures;
-      reads-back = written-returns n codes out layout ok c.put-entry.new.out c.put-entry.ensures;
+      reads_back = written_returns n codes out layout ok c.put-entry.new.out c.put-entry.ensures;
     }

@@ -2,14 +2,14 @@
 use Rattle.std.proofs.Common.{◌≡◌, ℕ, ◌+◌, ◌*◌, ◌^◌, ◌<◌, length, sym, subst, arith}
 use Rattle.gatesets.specs.Splits.{code}
 use Rattle.xorset.specs.Search.{Marked}
-use Rattle.xorset.proofs.Marking.{mark-none, mark-skip, mark-turn}
+use Rattle.xorset.proofs.Marking.{mark_none, mark_skip, mark_turn}
 use Rattle.xorset.proofs.xor.mark_links.Goals as goal
 use Rattle.xorset.proofs.xor.mark_links.Goals.{then-table-i-lt2, else-table-i-lt2}
 
 pub loop-i-init : goal.loop-i-init
 loop-i-init c =
     let frame = c.args.frame in
-    mark-none frame.variables (code c.args.table.now) frame.left frame.right c.fill.new.self (length c.args.values.now)
+    mark_none frame.variables (code c.args.table.now) frame.left frame.right c.fill.new.self (length c.args.values.now)
     (c.fill.ensures.after (λ _ e. e))
 
 pub loop-i-preserved : goal.loop-i-preserved
@@ -19,11 +19,11 @@ loop-i-preserved c =
     let long : length c.loop-i.values ≡ 2 * 2 ^ frame.variables = omega (arith, c.requires.values) in
     let below : i < 2 ^ frame.variables = omega (arith, c.requires.points) in
     elim c.if-table-i-lt2.branch [
-      | then-table-i-lt2 w ↦ mark-turn frame.variables (code c.args.table.now) frame.left frame.right c.loop-i.values c.if-table-i-lt2.values i
+      | then-table-i-lt2 w ↦ mark_turn frame.variables (code c.args.table.now) frame.left frame.right c.loop-i.values c.if-table-i-lt2.values i
           w.cell-of.result w.cell-of-then-table-i-lt2.result c.loop-i.invariant long below w.if-table-i-lt2.true w.cell-of.ensures
           w.cell-of-then-table-i-lt2.ensures w.values-is
       | else-table-i-lt2 w ↦ subst (λ vs. Marked frame.variables (code c.args.table.now) frame.left frame.right (i + 1) vs) (sym w.values-is)
-          (mark-skip frame.variables (code c.args.table.now) frame.left frame.right c.loop-i.values i c.loop-i.invariant w.if-table-i-lt2.false)
+          (mark_skip frame.variables (code c.args.table.now) frame.left frame.right c.loop-i.values i c.loop-i.invariant w.if-table-i-lt2.false)
     ]
 
 pub returns : goal.returns

@@ -3,12 +3,12 @@ use Rattle.std.proofs.Common.{refl, ◌∙◌}
 use Rattle.gatesets.specs.Splits.{code}
 use Rattle.tables.proofs.Passing.{clash}
 use Rattle.xorset.proofs.Coding.{valued_coded}
-use Rattle.xorset.proofs.XorKept.{values-none, values-parts}
+use Rattle.xorset.proofs.XorKept.{values_none, values_parts}
 use Rattle.xorset.proofs.xor.split_table.Goals as goal
 
 pub returns-then-not-find-values : goal.returns-then-not-find-values
 returns-then-not-find-values c =
-    record { parts = λ e. clash (cc); none = λ e. (values-none c.args.ask c.args.table.now c.if-not-find-values.ensures.found, refl, refl) }
+    record { parts = λ e. clash (cc); none = λ e. (values_none c.args.ask c.args.table.now c.if-not-find-values.ensures.found, refl, refl) }
 
 pub write-parts-requires : goal.write-parts-requires
 write-parts-requires c =
@@ -23,7 +23,7 @@ returns c =
     let found = c.if-not-find-values.ensures.found in
     record {
       parts = λ e.
-          values-parts c.args.ask c.args.table.now c.find-values.new.values found.values found.left found.right _ _
+          values_parts c.args.ask c.args.table.now c.find-values.new.values found.values found.left found.right _ _
           c.write-parts.ensures.left c.write-parts.ensures.right;
       none = λ e. clash (cc);
     }

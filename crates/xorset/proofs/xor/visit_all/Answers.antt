@@ -4,14 +4,14 @@ use Rattle.tables.specs.Stacks.{held}
 use Rattle.tables.proofs.Passing.{clash}
 use Rattle.gatesets.specs.Splits.{code}
 use Rattle.xorset.specs.Search.{Went}
-use Rattle.xorset.proofs.Classing.{popped, popped-cell, popped-valued, went-less, went-none, went_on}
+use Rattle.xorset.proofs.Classing.{popped, popped_cell, popped_valued, went_less, went_none, went_on}
 use Rattle.xorset.proofs.xor.visit_all.Goals as goal
 
 pub loop-cell-init : goal.loop-cell-init
 loop-cell-init c =
     let frame = c.args.frame in (
       c.requires.fits.1,
-      went-none frame.variables (code c.args.table.now) frame.left frame.right c.args.values.now (held c.args.stack.now) c.requires.going,
+      went_none frame.variables (code c.args.table.now) frame.left frame.right c.args.values.now (held c.args.stack.now) c.requires.going,
     )
 
 pub visit-of-requires : goal.visit-of-requires
@@ -20,7 +20,7 @@ visit-of-requires c =
     record {
       points = c.requires.fits.0.points;
       groups = (c.requires.fits.0.left, c.requires.fits.0.right);
-      cell = popped-cell frame.variables (code c.args.table.now) frame.left frame.right c.loop-cell.values (held c.loop-cell.stack) (held c.pop.new.self)
+      cell = popped_cell frame.variables (code c.args.table.now) frame.left frame.right c.loop-cell.values (held c.loop-cell.stack) (held c.pop.new.self)
           c.in-Ok.cell c.in-Ok.ensures.popped.0 c.loop-cell.invariant.1.going;
     }
 
@@ -47,7 +47,7 @@ visit-links-requires c =
       visits = (
         c.visit-of.ensures.visits,
         subst (λ x. get_or vs x 2 < 2) (sym same)
-            (popped-valued frame.variables (code table) frame.left frame.right vs (held c.loop-cell.stack) (held c.pop.new.self) c.in-Ok.cell last going),
+            (popped_valued frame.variables (code table) frame.left frame.right vs (held c.loop-cell.stack) (held c.pop.new.self) c.in-Ok.cell last going),
       );
       going = popped frame.variables (code table) frame.left frame.right vs (held c.loop-cell.stack) (held c.pop.new.self) c.in-Ok.cell last
           c.visit-of.result.cell same going;
@@ -64,7 +64,7 @@ returns-then-not-visit-links c =
 pub loop-cell-smaller : goal.loop-cell-smaller
 loop-cell-smaller c =
     let frame = c.args.frame in
-    went-less frame.variables (code c.args.table.now) frame.left frame.right c.loop-cell.values (held c.loop-cell.stack) (held c.pop.new.self)
+    went_less frame.variables (code c.args.table.now) frame.left frame.right c.loop-cell.values (held c.loop-cell.stack) (held c.pop.new.self)
     c.in-Ok.cell c.in-Ok.ensures.popped.0 c.visit-links.new.values (held c.visit-links.new.stack) c.if-not-visit-links.ensures.came
 
 pub loop-cell-preserved : goal.loop-cell-preserved

@@ -3,7 +3,7 @@ use Rattle.std.proofs.Common.{◌≡◌, ℕ, List, length, get_or, sym, refl, a
 use Rattle.std.proofs.lemmas.List.{get_or_default, length-set}
 use Rattle.tables.specs.Stacks.{held}
 use Rattle.gatesets.specs.Splits.{code}
-use Rattle.xorset.proofs.Classing.{class-passed, first_of, pass}
+use Rattle.xorset.proofs.Classing.{class_passed, first_of, pass}
 use Rattle.xorset.proofs.Following.{has_pushed}
 use Rattle.xorset.proofs.xor.visit_class.Goals as goal
 
@@ -47,7 +47,7 @@ returns c =
     let vs : List ℕ = c.args.values.now in
     let read : get_or vs c.args.root 0 ≡ get_or vs c.args.root 2 = get_or_default vs c.args.root 0 2 (omega (arith, c.requires.root, c.requires.fits.0.values)) in
     record {
-      passed = class-passed frame.variables (code c.args.table.now) frame.left frame.right vs (held c.args.stack.now) c.args.root c.requires.going
+      passed = class_passed frame.variables (code c.args.table.now) frame.left frame.right vs (held c.args.stack.now) c.args.root c.requires.going
           c.visit-all.result (held c.push.new.self) c.visit-all.new.values (held c.visit-all.new.stack) (sym read ∙ c.if-values-root-ne-WAITING.false)
           c.visit-all.ensures.came c.visit-all.ensures.empty;
       cells = c.visit-all.ensures.cells ∙ c.push.ensures.room;

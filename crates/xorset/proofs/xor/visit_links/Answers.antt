@@ -4,7 +4,7 @@ use lib.Bits.{and_le_l, and_self}
 use Rattle.tables.specs.Stacks.{held}
 use Rattle.gatesets.specs.Splits.{code}
 use Rattle.xorset.proofs.Submasks.{and_inside}
-use Rattle.xorset.proofs.Visiting.{assignment-below, other-below, points_small, turn-conflict, turn-done, turn-first, turn_last, turn-next}
+use Rattle.xorset.proofs.Visiting.{assignment_below, other_below, points_small, turn_conflict, turn_done, turn_first, turn_last, turn_next}
 use Rattle.xorset.proofs.Writing.{inside}
 use Rattle.xorset.proofs.xor.visit_links.Goals as goal
 
@@ -16,7 +16,7 @@ loop-frame-init c =
     let frame = c.args.frame in (
       and_self c.args.visit.group,
       c.requires.fits.1,
-      turn-first frame.variables (code c.args.table.now) frame.left frame.right c.args.visit c.requires.visits.0 c.args.values.now (held c.args.stack.now)
+      turn_first frame.variables (code c.args.table.now) frame.left frame.right c.args.visit c.requires.visits.0 c.args.values.now (held c.args.stack.now)
           c.requires.visits.1 c.requires.going,
     )
 
@@ -26,7 +26,7 @@ overflow-add-i c =
     omega (
       arith,
       points_small frame.variables c.requires.fits.0.variables,
-      assignment-below frame.variables (code c.args.table.now) frame.left frame.right c.args.visit c.requires.visits.0 c.loop-frame.part c.loop-frame.invariant.0,
+      assignment_below frame.variables (code c.args.table.now) frame.left frame.right c.args.visit c.requires.visits.0 c.loop-frame.part c.loop-frame.invariant.0,
     )
 
 pub cell-of-other-requires : goal.cell-of-other-requires
@@ -34,7 +34,7 @@ cell-of-other-requires c =
     let frame = c.args.frame in
     record {
       points = (c.requires.fits.0.points, c.requires.fits.0.variables);
-      i = assignment-below frame.variables (code c.args.table.now) frame.left frame.right c.args.visit c.requires.visits.0 c.loop-frame.part c.loop-frame.invariant.0;
+      i = assignment_below frame.variables (code c.args.table.now) frame.left frame.right c.args.visit c.requires.visits.0 c.loop-frame.part c.loop-frame.invariant.0;
     }
 
 pub bounds-table-i : goal.bounds-table-i
@@ -43,14 +43,14 @@ bounds-table-i c =
     omega (
       arith,
       c.requires.fits.0.table,
-      assignment-below frame.variables (code c.args.table.now) frame.left frame.right c.args.visit c.requires.visits.0 c.loop-frame.part c.loop-frame.invariant.0,
+      assignment_below frame.variables (code c.args.table.now) frame.left frame.right c.args.visit c.requires.visits.0 c.loop-frame.part c.loop-frame.invariant.0,
     )
 
 pub follow-link-requires : goal.follow-link-requires
 follow-link-requires c =
     let frame = c.args.frame in
     let below =
-    other-below frame.variables (code c.args.table.now) frame.left frame.right c.args.visit c.requires.visits.0 c.loop-frame.part c.loop-frame.invariant.0 in
+    other_below frame.variables (code c.args.table.now) frame.left frame.right c.args.visit c.requires.visits.0 c.loop-frame.part c.loop-frame.invariant.0 in
     record {
       value = c.loop-frame.invariant.2.small;
       other = (
@@ -64,7 +64,7 @@ pub returns-then-not-follow-link : goal.returns-then-not-follow-link
 returns-then-not-follow-link c =
     let frame = c.args.frame in
     record {
-      came = turn-conflict frame.variables (code c.args.table.now) frame.left frame.right c.args.visit c.requires.visits.0 c.args.values.now
+      came = turn_conflict frame.variables (code c.args.table.now) frame.left frame.right c.args.visit c.requires.visits.0 c.args.values.now
           (held c.args.stack.now) c.loop-frame.values (held c.loop-frame.stack) (get_or c.args.values.now c.args.visit.cell 0) c.loop-frame.part
           c.loop-frame.invariant.0 c.loop-frame.invariant.2 c.cell-of-other.result c.follow-link.new.values (held c.follow-link.new.stack) c.cell-of-other.ensures
           c.if-not-follow-link.ensures.followed;
@@ -75,7 +75,7 @@ pub returns-then-part-eq0 : goal.returns-then-part-eq0
 returns-then-part-eq0 c =
     let frame = c.args.frame in
     let done =
-    turn-done frame.variables (code c.args.table.now) frame.left frame.right c.args.visit c.requires.visits.0 c.args.values.now
+    turn_done frame.variables (code c.args.table.now) frame.left frame.right c.args.visit c.requires.visits.0 c.args.values.now
     (held c.args.stack.now) c.loop-frame.values (held c.loop-frame.stack) (get_or c.args.values.now c.args.visit.cell 0) c.loop-frame.part
     c.loop-frame.invariant.0 c.loop-frame.invariant.2 c.cell-of-other.result c.follow-link.new.values (held c.follow-link.new.stack) c.cell-of-other.ensures
     c.if-not-follow-link.ensures.followed in
@@ -93,13 +93,13 @@ pub loop-frame-preserved : goal.loop-frame-preserved
 loop-frame-preserved c =
     let frame = c.args.frame in
     let done =
-    turn-done frame.variables (code c.args.table.now) frame.left frame.right c.args.visit c.requires.visits.0 c.args.values.now
+    turn_done frame.variables (code c.args.table.now) frame.left frame.right c.args.visit c.requires.visits.0 c.args.values.now
     (held c.args.stack.now) c.loop-frame.values (held c.loop-frame.stack) (get_or c.args.values.now c.args.visit.cell 0) c.loop-frame.part
     c.loop-frame.invariant.0 c.loop-frame.invariant.2 c.cell-of-other.result c.follow-link.new.values (held c.follow-link.new.stack) c.cell-of-other.ensures
     c.if-not-follow-link.ensures.followed in (
       and_inside (c.loop-frame.part - 1) c.args.visit.group,
       omega (arith, c.follow-link.ensures.cells, c.loop-frame.invariant.1),
-      turn-next frame.variables (code c.args.table.now) frame.left frame.right c.args.visit c.requires.visits.0 c.args.values.now
+      turn_next frame.variables (code c.args.table.now) frame.left frame.right c.args.visit c.requires.visits.0 c.args.values.now
           (held c.args.stack.now) c.follow-link.new.values (held c.follow-link.new.stack) (get_or c.args.values.now c.args.visit.cell 0) c.loop-frame.part
           c.loop-frame.invariant.0 done,
     )

@@ -1,7 +1,7 @@
 -- Each turn writes a code of either part.
 use Rattle.std.proofs.Common.{◌≡◌, ℕ, ◌^◌, ◌<◌, refl, arith}
 use Rattle.xorset.specs.Cells.{left_cell, right_cell}
-use Rattle.xorset.proofs.Coding.{code-all, code-more, code_small, left_inside, right_inside}
+use Rattle.xorset.proofs.Coding.{code_all, code_more, code_small, left_inside, right_inside}
 use Rattle.xorset.proofs.xor.write_parts.Goals as goal
 
 pub loop-i-init : goal.loop-i-init
@@ -32,9 +32,9 @@ loop-i-preserved c =
     let below : i < 2 ^ n = omega (arith, c.requires.rows.1.0) in
     let left = left_inside n c.args.right i below in
     let right = right_inside n c.args.left i below in (
-      code-more c.args.values.now (left_cell c.args.right) (2 ^ n) c.args.left-row.now c.requires.rows.1.0 c.loop-i.left-row i c.cell-of.result
+      code_more c.args.values.now (left_cell c.args.right) (2 ^ n) c.args.left_row.now c.requires.rows.1.0 c.loop-i.left_row i c.cell-of.result
           c.loop-i.invariant.0 c.cell-of.ensures (omega (arith, c.requires.rows.0)) below,
-      code-more c.args.values.now (right_cell n c.args.left) (2 ^ n) c.args.right-row.now c.requires.rows.1.1 c.loop-i.right-row i c.cell-of-in-loop-i.result
+      code_more c.args.values.now (right_cell n c.args.left) (2 ^ n) c.args.right_row.now c.requires.rows.1.1 c.loop-i.right_row i c.cell-of-in-loop-i.result
           c.loop-i.invariant.1 c.cell-of-in-loop-i.ensures (omega (arith, c.requires.rows.0)) below,
     )
 
@@ -43,7 +43,7 @@ returns c =
     let n = c.args.variables in
     let all : c.loop-i.i ≡ 2 ^ n = omega (arith, c.requires.rows.1.0) in
     record {
-      left = code-all c.args.values.now (left_cell c.args.right) (2 ^ n) c.args.left-row.now c.requires.rows.1.0 c.loop-i.left-row c.loop-i.i all c.loop-i.invariant.0;
-      right = code-all c.args.values.now (right_cell n c.args.left) (2 ^ n) c.args.right-row.now c.requires.rows.1.1 c.loop-i.right-row c.loop-i.i all
+      left = code_all c.args.values.now (left_cell c.args.right) (2 ^ n) c.args.left_row.now c.requires.rows.1.0 c.loop-i.left_row c.loop-i.i all c.loop-i.invariant.0;
+      right = code_all c.args.values.now (right_cell n c.args.left) (2 ^ n) c.args.right_row.now c.requires.rows.1.1 c.loop-i.right_row c.loop-i.i all
           c.loop-i.invariant.1;
     }

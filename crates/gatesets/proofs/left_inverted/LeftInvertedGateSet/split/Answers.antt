@@ -1,7 +1,7 @@
 -- What the set below did is, with the left part complemented, what the left-inverted set owes.
 use Rattle.std.proofs.lemmas.Result.{err_from_is_err_and}
 use Rattle.gatesets.specs.Splits.{rows}
-use Rattle.gatesets.proofs.Inversions.{inverted-parted, inverted-refused}
+use Rattle.gatesets.proofs.Inversions.{inverted_parted, inverted_refused}
 use Rattle.gatesets.proofs.left_inverted.LeftInvertedGateSet.split.Goals as goal
 
 pub returns-in-err-split : goal.returns-in-err-split
@@ -13,7 +13,7 @@ returns-in-err-split g c =
       table_kept = c.split.ensures.table_kept;
       outcome =
           rw (p.1, p.2)
-          (inverted-refused (g.S.GateSet.counted s) (g.S.GateSet.answering s a.ask.gate) (g.S.GateSet.gives s) a.ask
+          (inverted_refused (g.S.GateSet.counted s) (g.S.GateSet.answering s a.ask.gate) (g.S.GateSet.gives s) a.ask
           (rows a.table.now a.left.now a.right.now a.first.now a.second.now)
           c.split.new.left c.split.new.right c.in-err-split.field-0.0 c.in-err-split.ensures.outcome);
     }
@@ -25,7 +25,7 @@ returns g c =
     record {
       table_kept = c.split.ensures.table_kept;
       outcome =
-          inverted-parted (g.S.GateSet.counted s) (g.S.GateSet.answering s a.ask.gate) (g.S.GateSet.gives s) a.ask
+          inverted_parted (g.S.GateSet.counted s) (g.S.GateSet.answering s a.ask.gate) (g.S.GateSet.gives s) a.ask
           (rows a.table.now a.left.now a.right.now a.first.now a.second.now)
           c.split.new.left c.split.new.right c.complement-table.new.row
           c.complement-table.ensures c.in-ok-split.ensures.outcome;

@@ -4,7 +4,7 @@ use Rattle.std.proofs.lemmas.Result.{err_from_is_err_and}
 use Rattle.tables.specs.Tables.{sized}
 use Rattle.gatesets.specs.Derived.{complemented_to}
 use Rattle.gatesets.proofs.Complements.{complemented_twice}
-use Rattle.gatesets.proofs.Opposites.{opposite-parted, opposite-refused}
+use Rattle.gatesets.proofs.Opposites.{opposite_parted, opposite_refused}
 use Rattle.gatesets.proofs.opposite.OppositeGateSet.split.Goals as goal
 
 pub returns-in-err-done : goal.returns-in-err-done
@@ -19,7 +19,7 @@ returns-in-err-done g c =
           ∙ complemented_twice front c.args.table.now;
       outcome =
           rw (p.1, p.2)
-          (opposite-refused (g.S.GateSet.counted s) (g.S.GateSet.answering s) (g.S.GateSet.gives s) c.args.ask
+          (opposite_refused (g.S.GateSet.counted s) (g.S.GateSet.answering s) (g.S.GateSet.gives s) c.args.ask
           c.args.table.now c.args.left.now c.args.right.now c.args.first.now c.args.second.now
           c.complement-table.new.row after.left after.right c.in-err-done.field-0.0
           c.complement-table.ensures c.in-err-done.ensures.outcome);
@@ -35,7 +35,7 @@ returns g c =
           c.complement-table-2.ensures ∙ ap (complemented_to front) (c.split-done.ensures.table_kept ∙ c.complement-table.ensures)
           ∙ complemented_twice front c.args.table.now;
       outcome =
-          opposite-parted (g.S.GateSet.counted s) (g.S.GateSet.answering s) (g.S.GateSet.gives s) c.args.ask
+          opposite_parted (g.S.GateSet.counted s) (g.S.GateSet.answering s) (g.S.GateSet.gives s) c.args.ask
           c.args.table.now c.args.left.now c.args.right.now c.args.first.now c.args.second.now
           c.complement-table.new.row after.left after.right c.complement-table-3.new.row c.complement-table-4.new.row
           c.complement-table.ensures c.complement-table-3.ensures c.complement-table-4.ensures c.in-ok-done.ensures.outcome;

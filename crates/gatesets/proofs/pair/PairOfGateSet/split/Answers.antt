@@ -1,6 +1,6 @@
 -- What the set did to which the gate belongs is what the pair owes.
 use Rattle.gatesets.specs.Splits.{rows}
-use Rattle.gatesets.proofs.Numberings.{pair-by-first, pair-by-second}
+use Rattle.gatesets.proofs.Numberings.{pair_by_first, pair_by_second}
 use Rattle.gatesets.proofs.pair.PairOfGateSet.split.Goals as goal
 
 pub returns-then-ask-ge16 : goal.returns-then-ask-ge16
@@ -10,7 +10,7 @@ returns-then-ask-ge16 g c =
     record {
       table_kept = c.split.ensures.table_kept;
       outcome =
-          pair-by-first (g.F.GateSet.counted s.0) (g.S.GateSet.counted s.1) c.count-count.result
+          pair_by_first (g.F.GateSet.counted s.0) (g.S.GateSet.counted s.1) c.count-count.result
           (g.F.GateSet.answering s.0) (g.S.GateSet.answering s.1) (g.F.GateSet.gives s.0) (g.S.GateSet.gives s.1)
           a.ask (rows a.table.now a.left.now a.right.now a.first.now a.second.now)
           c.split.new.left c.split.new.right c.split.result
@@ -25,7 +25,7 @@ returns-else-ask-ge16 g c =
     record {
       table_kept = below.ensures.table_kept;
       outcome =
-          pair-by-second (g.F.GateSet.counted s.0) (g.S.GateSet.counted s.1) c.count-count.result
+          pair_by_second (g.F.GateSet.counted s.0) (g.S.GateSet.counted s.1) c.count-count.result
           (g.F.GateSet.answering s.0) (g.S.GateSet.answering s.1) (g.F.GateSet.gives s.0) (g.S.GateSet.gives s.1)
           a.ask (rows a.table.now a.left.now a.right.now a.first.now a.second.now)
           below.new.left below.new.right below.result

@@ -1,9 +1,9 @@
 -- The checks pass, and the rule decides.
 use Rattle.std.proofs.Common.{sym, refl}
 use Rattle.gatesets.specs.Splits.{rows}
-use Rattle.gatesets.proofs.Based.{based-none, based-parts}
+use Rattle.gatesets.proofs.Based.{based_none, based_parts}
 use Rattle.orset.specs.Or.{OrGives, or_gate}
-use Rattle.orset.proofs.OrKept.{or-gives, or-parted, or-refused}
+use Rattle.orset.proofs.OrKept.{or_gives, or_parted, or_refused}
 use Rattle.orset.proofs.or.OrGateSet.split.Goals as goal
 
 pub returns-then-write-parts : goal.returns-then-write-parts
@@ -13,8 +13,8 @@ returns-then-write-parts c =
     record {
       table_kept = refl;
       outcome =
-          based-parts or_gate OrGives c.args.ask lent c.in-Some-points.points c.in-Some-points.ensures (sym c.in-default.ensures)
-          c.write-parts.new.left c.write-parts.new.right (or-gives c.args.ask _ _ _ rule) (or-parted c.args.ask _ _ _ rule);
+          based_parts or_gate OrGives c.args.ask lent c.in-Some-points.points c.in-Some-points.ensures (sym c.in-default.ensures)
+          c.write-parts.new.left c.write-parts.new.right (or_gives c.args.ask _ _ _ rule) (or_parted c.args.ask _ _ _ rule);
     }
 
 pub returns-else-write-parts : goal.returns-else-write-parts
@@ -24,6 +24,6 @@ returns-else-write-parts c =
     record {
       table_kept = refl;
       outcome =
-          based-none or_gate OrGives c.args.ask lent c.in-Some-points.points c.in-Some-points.ensures (sym c.in-default.ensures)
-          c.write-parts.new.left c.write-parts.new.right (or-refused c.args.ask _ none.0) none.1 none.2;
+          based_none or_gate OrGives c.args.ask lent c.in-Some-points.points c.in-Some-points.ensures (sym c.in-default.ensures)
+          c.write-parts.new.left c.write-parts.new.right (or_refused c.args.ask _ none.0) none.1 none.2;
     }

@@ -1,9 +1,9 @@
 -- The checks pass, and the rule decides.
 use Rattle.std.proofs.Common.{sym, refl}
 use Rattle.gatesets.specs.Splits.{rows}
-use Rattle.gatesets.proofs.Based.{based-none, based-parts}
+use Rattle.gatesets.proofs.Based.{based_none, based_parts}
 use Rattle.xorset.specs.Xor.{XorGives, xor_gate}
-use Rattle.xorset.proofs.XorKept.{xor-gives, xor-parted, xor-refused}
+use Rattle.xorset.proofs.XorKept.{xor_gives, xor_parted, xor_refused}
 use Rattle.xorset.proofs.xor.XorGateSet.split.Goals as goal
 
 pub returns-then-split-table : goal.returns-then-split-table
@@ -13,8 +13,8 @@ returns-then-split-table c =
     record {
       table_kept = refl;
       outcome =
-          based-parts xor_gate XorGives c.args.ask lent c.in-Some-points.points c.in-Some-points.ensures (sym c.in-default.ensures)
-          c.split-table.new.left c.split-table.new.right (xor-gives c.args.ask _ _ _ rule) (xor-parted c.args.ask _ _ _ rule);
+          based_parts xor_gate XorGives c.args.ask lent c.in-Some-points.points c.in-Some-points.ensures (sym c.in-default.ensures)
+          c.split-table.new.left c.split-table.new.right (xor_gives c.args.ask _ _ _ rule) (xor_parted c.args.ask _ _ _ rule);
     }
 
 pub returns-else-split-table : goal.returns-else-split-table
@@ -24,6 +24,6 @@ returns-else-split-table c =
     record {
       table_kept = refl;
       outcome =
-          based-none xor_gate XorGives c.args.ask lent c.in-Some-points.points c.in-Some-points.ensures (sym c.in-default.ensures)
-          c.split-table.new.left c.split-table.new.right (xor-refused c.args.ask _ none.0) none.1 none.2;
+          based_none xor_gate XorGives c.args.ask lent c.in-Some-points.points c.in-Some-points.ensures (sym c.in-default.ensures)
+          c.split-table.new.left c.split-table.new.right (xor_refused c.args.ask _ none.0) none.1 none.2;
     }
