@@ -1,4 +1,6 @@
 // birdterm: command lines, one to a line on standard input, or one given as arguments.
+#![tactic(auto)]
+
 mod command;
 mod desk;
 mod gates;

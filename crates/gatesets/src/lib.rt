@@ -1,4 +1,6 @@
 // Sets of gates: the interface of a split, its order of checks, and sets derived from any set below.
+#![tactic(auto)]
+
 mod check;
 mod complement;
 mod gateset;

@@ -1,4 +1,6 @@
 // Questions: the dictionary of truth tables, read and written.
+#![tactic(auto)]
+
 mod append;
 mod fault;
 mod form;

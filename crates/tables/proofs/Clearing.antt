@@ -1,5 +1,5 @@
 -- Clearing the digits of a group, and agreement outside it: two assignments agree outside a group exactly when, cleared of it, they are the same.
-use Rattle.std.proofs.Common.{◌≡◌, ℕ, zero, suc, ◌+◌, ◌-◌, ◌*◌, ◌/◌, ◌%◌, ◌^◌, ◌<◌, ◌≤◌, eqb, ◌⊎◌, Decides, sym, refl, ap, ◌∙◌, inl, inr, pow-suc, one-add, arith}
+use Rattle.std.proofs.Common.{◌≡◌, ℕ, zero, suc, ◌+◌, ◌-◌, ◌*◌, ◌/◌, ◌%◌, ◌^◌, ◌<◌, ◌≤◌, ◌⊎◌, Decides, sym, refl, ap, ◌∙◌, inl, inr, pow-suc, one-add, arith}
 use lib.Arith.{bin_ind}
 use lib.Bits.{bit_and, and_step, and_le_l}
 use Rattle.std.proofs.lemmas.Nat.{shr-shr}

@@ -5,18 +5,20 @@ use Rattle.std.proofs.lemmas.Option.{slice_get_read}
 use Rattle.std.proofs.lemmas.Bool.Decides.{Decides-like}
 use Rattle.tables.specs.Groups.{Ignores, clear}
 use Rattle.tables.proofs.Clearing.{clear-agree, clear_again, clear_le, cleared_ignores}
-use Rattle.tables.proofs.Passing.{clash}
 
-module _ {A : Type 0} {E : A → A → Bool → Type 0} (decides : (x y : A) (r : Bool) → E x y r → Decides r (x ≡ y)) where
+-- what is complemented to 0 is 1
+true_from : (b : Bool) → false ≡ not b → b ≡ true
+true_from true z = refl
+true_from false z = z
+
+module _ {A : Type 0} {same : A → A → Bool} (decides : (x y : A) (r : Bool) → r ≡ same x y → Decides r (x ≡ y)) where
   -- entries of which `!=` is false are equal
-  pub not_apart : (x y : A) → ((b : Bool) × E x y b × (false ≡ not b)) → x ≡ y
-  not_apart x y (true, e, z) = (decides x y true e).0 refl
-  not_apart x y (false, e, z) = clash (cc)
+  pub not_apart : (x y : A) → false ≡ not (same x y) → x ≡ y
+  not_apart x y z = (decides x y (same x y) refl).0 (true_from (same x y) z)
 
   -- entries of which `!=` is true are not
-  pub apart : (x y : A) → ((b : Bool) × E x y b × (true ≡ not b)) → x ≡ y → false ≡ true
-  apart x y (true, e, z) q = sym z
-  apart x y (false, e, z) q = (decides x y false e).1 q
+  pub apart : (x y : A) → true ≡ not (same x y) → x ≡ y → false ≡ true
+  apart x y z q = sym (z ∙ ap not ((decides x y (same x y) refl).1 q))
 
 module _ {A : Type 0} (row : List A) (i j : ℕ) (x y : A) (here : i < length row) (there : j < length row) (ex : x ≡ get_or row i x) (ey : y ≡ get_or row j y) where
   -- two entries that were read are equal exactly where the row is the same at both places

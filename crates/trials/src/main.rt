@@ -1,4 +1,6 @@
 // trials: questions with known answers put to the sets of gates, and their splits compared with a search through all pairs of functions.
+#![tactic(auto)]
+
 mod asking;
 mod brute;
 mod cases;

@@ -1,4 +1,6 @@
 // The worked questions: one table, checked by one statement about the definitions that every contract cites.
+#![tactic(auto)]
+
 ghost use Rattle.std.specs.Prelude.{◌≡◌, length};
 ghost use Rattle.worked.specs.Worked.{questions, Worked};
 

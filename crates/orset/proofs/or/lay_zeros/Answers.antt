@@ -13,9 +13,9 @@ loop-index-preserved c =
     let zero : ℕ → Bool = zero_at (code c.args.table.now) in
     elim c.if-table-index-eq0.branch [
       | goal.then-table-index-eq0 w ↦ (
-        turn_more c.args.right zero 0 (λ _. 2) m i _ c.loop-index.lefts _ w.lefts-is w.clear-group.ensures
+        turn_more c.args.right zero 0 (λ _. 2) m i _ c.loop-index.lefts _ w.lefts-is w.clear_group.ensures
             (eq-eqb _ _ w.if-table-index-eq0.true) c.loop-index-test.true c.loop-index.invariant.0,
-        turn_more c.args.left zero 0 (λ _. 2) m i _ c.loop-index.rights _ w.rights-is w.clear-group-then-table-index-eq0.ensures
+        turn_more c.args.left zero 0 (λ _. 2) m i _ c.loop-index.rights _ w.rights-is w.clear_group-then-table-index-eq0.ensures
             (eq-eqb _ _ w.if-table-index-eq0.true) c.loop-index-test.true c.loop-index.invariant.1,
       )
       | goal.else-table-index-eq0 w ↦ (

@@ -14,21 +14,21 @@ pub returns : goal.returns
 returns c =
     let n = c.args.variables in
     let codes = c.args.codes.now in
-    let size = c.in-ok-size.size in
-    let out = c.write-entry.new.out in
-    let told = c.in-ok-size.ensures in
+    let size = c.in_ok-size.size in
+    let out = c.write_entry.new.out in
+    let told = c.in_ok-size.ensures in
     let ok = answered_ok (first (write_checks n codes any_entry)) (entry_length n (form_for n codes)) size (sym told.answer) in
-    let bytes = c.in-ok-extend-from-slice.ensures.items in
+    let bytes = c.in_ok-extend_from_slice.ensures.items in
     let form = c.heading_form.ensures.1 ∙ front_form n codes _ out told.out (passed_bounds n codes any_entry ok.0).1 in
     let grown = bytes ∙ ap (λ k. vec_items c.args.dictionary.now ++ take k out) (sub-zero size)
     ∙ ap (λ xs. vec_items c.args.dictionary.now ++ xs) (front_entry n codes _ out told.out size ok.1) in
-    let entry_is = ap₂ (entry_by n) form (c.len.ensures ∙ c.extend-from-slice.new.self.ok.0) in
+    let entry_is = ap₂ (entry_by n) form (c.len.ensures ∙ c.extend_from_slice.new.self.ok.0) in
     let few : 2 ^ n ≤ any_table = pow_mono {i = n} {j = 10} (passed_bounds n codes any_entry ok.0).1 in
-    let there = last_returns n codes any_entry (vec_items c.args.dictionary.now) (vec_items c.extend-from-slice.new.self) ok.0 grown few in
+    let there = last_returns n codes any_entry (vec_items c.args.dictionary.now) (vec_items c.extend_from_slice.new.self) ok.0 grown few in
     record {
       passes = ok.0;
       bytes = grown;
       entry_is = entry_is;
       read_there = there.answer ∙ ap Ok (sym entry_is);
-      table_there = ap (λ f. table n f (drop (length (vec_items c.args.dictionary.now)) (vec_items c.extend-from-slice.new.self))) form ∙ there.table_read;
+      table_there = ap (λ f. table n f (drop (length (vec_items c.args.dictionary.now)) (vec_items c.extend_from_slice.new.self))) form ∙ there.table_read;
     }

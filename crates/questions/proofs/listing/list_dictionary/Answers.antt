@@ -19,13 +19,13 @@ loop-at-preserved c =
     let at = c.loop-at.at in
     let e = c.in-Ok.entry in
     let item = item_at file at e in
-    let codes = front_codes file at any_table e c.loop-at.row c.read-entry.new.row c.table-in.result.now (accepted c) c.in-Ok.ensures.row c.table-in.ensures in
-    let counts = c.count-codes-counts.ensures ∙ ap counted codes in (
-      c.read-entry.auto.row ∙ c.loop-at.invariant.0,
+    let codes = front_codes file at any_table e c.loop-at.row c.read_entry.new.row c.table_in.result.now (accepted c) c.in-Ok.ensures.row c.table_in.ensures in
+    let counts = c.count_codes-counts.ensures ∙ ap counted codes in (
+      c.read_entry.auto.row ∙ c.loop-at.invariant.0,
       (sized_entry file at any_table e (accepted c)).within c.loop-at-test.true,
       (
         done.0 ++ item ∷ [],
-        c.in-ok-push.ensures.items ∙ ap₂ (λ es n. es ++ record { at = at; entry = e; counts = n } ∷ []) done.1 counts ∙ sym (map_push listed done.0 item),
+        c.in_ok-push.ensures.items ∙ ap₂ (λ es n. es ++ record { at = at; entry = e; counts = n } ∷ []) done.1 counts ∙ sym (map_push listed done.0 item),
         passed_more file done.0 at e done.2 c.loop-at-test.true (accepted c),
       ),
     )
@@ -41,9 +41,9 @@ returns-in-Err c =
     let read = read_any file at _ c.loop-at.invariant.0 c.in-Err.ensures.answer in
     record { entries = (done.0, passed_stop file done.0 at c.in-Err.fault done.2 c.loop-at-test.true read, done.1); one_list = holds_one_list }
 
-pub returns-in-err-push : goal.returns-in-err-push
-returns-in-err-push c =
-    let p = err_from_is_err_and c.from-residual.result c.from-residual.ensures.1 in
+pub returns-in_err-push : goal.returns-in_err-push
+returns-in_err-push c =
+    let p = err_from_is_err_and c.from_residual.result c.from_residual.ensures.1 in
     rw p.1 (record { entries = tt; one_list = holds_one_list })
 
 pub returns : goal.returns

@@ -8,7 +8,7 @@ use Rattle.questions.proofs.reader.fill_row.Goals as goal
 pub loop-i-preserved : goal.loop-i-preserved
 loop-i-preserved c =
     fill_more (code c.args.layout.variables c.args.layout.form c.args.bytes.now) (2 ^ c.args.layout.variables) c.args.row.now 0
-    c.loop-i.row c.loop-i.i c.loop-i.i c.code-at.result c.loop-i.invariant c.code-at.ensures (omega arith)
+    c.loop-i.row c.loop-i.i c.loop-i.i c.code_at.result c.loop-i.invariant c.code_at.ensures (omega arith)
     (omega (arith, c.requires.row)) (omega (arith, c.args.layout.sized))
 
 pub returns : goal.returns

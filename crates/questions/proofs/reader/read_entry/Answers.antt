@@ -16,24 +16,24 @@ returns-then-at-file c =
       between = tt;
     }
 
-pub returns-in-err-layout : goal.returns-in-err-layout
-returns-in-err-layout c =
-    let p = err_from_is_err_and c.from-residual.result c.from-residual.ensures.1 in
+pub returns-in_err-layout : goal.returns-in_err-layout
+returns-in_err-layout c =
+    let p = err_from_is_err_and c.from_residual.result c.from_residual.ensures.1 in
     let whole = take_rest c.args.file.now c.args.at in
     rw (p.1, p.2)
     (record {
-      answer = answer_refused _ _ c.args.at (length c.args.row.now) c.in-err-layout.field-0.0 whole c.in-err-layout.ensures;
+      answer = answer_refused _ _ c.args.at (length c.args.row.now) c.in_err-layout.field-0.0 whole c.in_err-layout.ensures;
       row = refl;
       between = tt;
     })
 
 pub returns : goal.returns
 returns c =
-    let layout = c.in-ok-layout.layout in
+    let layout = c.in_ok-layout.layout in
     let whole = take_rest c.args.file.now c.args.at in
     record {
-      answer = answer_accepted _ _ c.args.at (length c.args.row.now) layout whole c.in-ok-layout.ensures;
-      row = c.fill-row.ensures ∙ ap (λ bytes. table layout.variables layout.form bytes ++ drop (2 ^ layout.variables) c.args.row.now) whole;
-      between = accepted_between _ _ (drop (2 ^ layout.variables) c.args.row.now) c.fill-row.new.row (length c.args.row.now) layout whole
-          c.in-ok-layout.ensures c.fill-row.ensures;
+      answer = answer_accepted _ _ c.args.at (length c.args.row.now) layout whole c.in_ok-layout.ensures;
+      row = c.fill_row.ensures ∙ ap (λ bytes. table layout.variables layout.form bytes ++ drop (2 ^ layout.variables) c.args.row.now) whole;
+      between = accepted_between _ _ (drop (2 ^ layout.variables) c.args.row.now) c.fill_row.new.row (length c.args.row.now) layout whole
+          c.in_ok-layout.ensures c.fill_row.ensures;
     }

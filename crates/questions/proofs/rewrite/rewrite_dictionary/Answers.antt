@@ -13,23 +13,23 @@ use Rattle.questions.proofs.Relisting.{lawful_item, lawful_passes, every_table_r
 use Rattle.questions.proofs.Walking.{passed_more, passed_all, passed_stop, front_codes, read_any, sized_entry, onward}
 use Rattle.questions.proofs.rewrite.rewrite_dictionary.Goals as goal
 
-pub append-table-requires : goal.append-table-requires
-append-table-requires c =
+pub append_table-requires : goal.append_table-requires
+append_table-requires c =
     let file = c.args.file.now in
     let at = c.loop-at.at in
     let e = c.in-Ok.entry in
     let read = read_any file at _ c.loop-at.invariant.0 c.in-Ok.ensures.answer in
-    let codes = front_codes file at any_table e c.loop-at.row c.read-entry.new.row c.table-in.result.now read c.in-Ok.ensures.row c.table-in.ensures in
+    let codes = front_codes file at any_table e c.loop-at.row c.read_entry.new.row c.table_in.result.now read c.in-Ok.ensures.row c.table_in.ensures in
     subst (λ cs. first (write_checks e.variables cs any_entry) ≡ None) (sym codes) (lawful_passes (table_of (item_at file at e)) (lawful_item file at any_table e read))
 
-pub returns-in-err-after : goal.returns-in-err-after
-returns-in-err-after c =
-    let p = err_from_is_err_and c.from-residual.result c.from-residual.ensures.1 in
-    rw (p.1, p.2) (record { result = subst (NotRewritten c.args.file.now) (sym c.in-err-after.ensures) tt; tables = every_table_reads_back; lists = every_list_reads_back })
+pub returns-in_err-after : goal.returns-in_err-after
+returns-in_err-after c =
+    let p = err_from_is_err_and c.from_residual.result c.from_residual.ensures.1 in
+    rw (p.1, p.2) (record { result = subst (NotRewritten c.args.file.now) (sym c.in_err-after.ensures) tt; tables = every_table_reads_back; lists = every_list_reads_back })
 
-pub returns-in-err-push : goal.returns-in-err-push
-returns-in-err-push c =
-    let p = err_from_is_err_and c.from-residual-in-err-push.result c.from-residual-in-err-push.ensures.1 in
+pub returns-in_err-push : goal.returns-in_err-push
+returns-in_err-push c =
+    let p = err_from_is_err_and c.from_residual-in_err-push.result c.from_residual-in_err-push.ensures.1 in
     rw (p.1, p.2) (record { result = tt; tables = every_table_reads_back; lists = every_list_reads_back })
 
 accepted : (c : goal.In-ok-push) → reading c.args.file.now c.loop-at.at any_table ≡ Ok c.in-Ok.entry
@@ -45,17 +45,17 @@ loop-at-preserved c =
     let at = c.loop-at.at in
     let e = c.in-Ok.entry in
     let item = item_at file at e in
-    let codes = front_codes file at any_table e c.loop-at.row c.read-entry.new.row c.table-in.result.now (accepted c) c.in-Ok.ensures.row c.table-in.ensures in
-    let bytes = c.in-ok-after.ensures.1 ∙ ap₂ (λ xs cs. xs ++ entry_bytes e.variables cs) done.1 codes ∙ written_push done.0 item in
-    let form = c.in-ok-after.ensures.0 ∙ ap (form_for e.variables) codes in
+    let codes = front_codes file at any_table e c.loop-at.row c.read_entry.new.row c.table_in.result.now (accepted c) c.in-Ok.ensures.row c.table_in.ensures in
+    let bytes = c.in_ok-after.ensures.1 ∙ ap₂ (λ xs cs. xs ++ entry_bytes e.variables cs) done.1 codes ∙ written_push done.0 item in
+    let form = c.in_ok-after.ensures.0 ∙ ap (form_for e.variables) codes in
     let to = c.len-to.ensures ∙ c.loop-at.bytes.ok.0 ∙ ap length done.1 ∙ sym (zero-add (length (written (map table_of done.0)))) in
     let gone = ap₂ (λ t f. record { from = at; to = t; before = e.form; after = f }) to form in (
-      c.read-entry.auto.row ∙ c.loop-at.invariant.0,
+      c.read_entry.auto.row ∙ c.loop-at.invariant.0,
       (sized_entry file at any_table e (accepted c)).within c.loop-at-test.true,
       (
         done.0 ++ item ∷ [],
         bytes,
-        c.in-ok-push.ensures.items ∙ ap₂ (λ es r. es ++ r ∷ []) done.2 gone ∙ sym (rewrites_push 0 done.0 item),
+        c.in_ok-push.ensures.items ∙ ap₂ (λ es r. es ++ r ∷ []) done.2 gone ∙ sym (rewrites_push 0 done.0 item),
         passed_more file done.0 at e done.3 c.loop-at-test.true (accepted c),
         subst (All Lawful) (sym (map_push table_of done.0 item)) (All-push Lawful (map table_of done.0) (table_of item) done.4 (lawful_item file at any_table e (accepted c))),
       ),

@@ -7,11 +7,11 @@ use Rattle.questions.specs.Writing.{form_for}
 use Rattle.questions.proofs.Accepting.{written_answer, written_out, written_returns}
 use Rattle.questions.proofs.writer.write_entry.Goals as goal
 
-pub returns-in-err-layout : goal.returns-in-err-layout
-returns-in-err-layout c =
-    let p = err_from_is_err_and c.from-residual.result c.from-residual.ensures.1 in
+pub returns-in_err-layout : goal.returns-in_err-layout
+returns-in_err-layout c =
+    let p = err_from_is_err_and c.from_residual.result c.from_residual.ensures.1 in
     let n = c.args.variables in
-    let refused = ap (λ r. answered r (entry_length n (form_for n c.args.codes.now))) c.in-err-layout.ensures in
+    let refused = ap (λ r. answered r (entry_length n (form_for n c.args.codes.now))) c.in_err-layout.ensures in
     rw (p.1, p.2) (record { answer = sym refused; out = refl; reads_back = tt })
 
 pub returns : goal.returns
@@ -19,10 +19,10 @@ returns c =
     let n = c.args.variables in
     let codes = c.args.codes.now in
     let out = c.args.out.now in
-    let layout = c.in-ok-layout.layout in
-    let ok = c.in-ok-layout.ensures in
+    let layout = c.in_ok-layout.layout in
+    let ok = c.in_ok-layout.ensures in
     record {
       answer = written_answer n codes out layout ok;
-      out = written_out n codes out layout ok c.put-entry.new.out c.put-entry.ensures;
-      reads_back = written_returns n codes out layout ok c.put-entry.new.out c.put-entry.ensures;
+      out = written_out n codes out layout ok c.put_entry.new.out c.put_entry.ensures;
+      reads_back = written_returns n codes out layout ok c.put_entry.new.out c.put_entry.ensures;
     }

@@ -2,5 +2,5 @@
 use lib.Bits.{and_le_l}
 use Rattle.tables.proofs.group.clear_group.Goals as goal
 
-pub overflow-sub-result : goal.overflow-sub-result
-overflow-sub-result c = and_le_l _ _
+pub overflow_sub-result : goal.overflow_sub-result
+overflow_sub-result c = and_le_l _ _

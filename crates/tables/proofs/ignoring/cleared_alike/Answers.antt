@@ -13,7 +13,7 @@ returns-then-ne g c =
     let j : ℕ = clear c.args.group i in
     let here : i < length row = omega arith in
     let there : j < length row = omega (arith, clear_le c.args.group i) in
-    let there_is = subst (λ k. c.index-row-cleared.result ≡ get_or row k c.index-row-cleared.result) c.clear-group-cleared.ensures c.index-row-cleared.is in (
+    let there_is = subst (λ k. c.index-row-cleared.result ≡ get_or row k c.index-row-cleared.result) c.clear_group-cleared.ensures c.index-row-cleared.is in (
       λ z. clash (cc),
       λ h. apart g.met.T.Entry.decides _ _ c.if-ne.ensures
           (read_same row i j _ _ here there c.index-row-i.is there_is (h i (omega arith))),
@@ -26,6 +26,6 @@ loop-i-preserved g c =
     let j : ℕ = clear c.args.group i in
     let here : i < length row = omega arith in
     let there : j < length row = omega (arith, clear_le c.args.group i) in
-    let there_is = subst (λ k. c.index-row-cleared.result ≡ get_or row k c.index-row-cleared.result) c.clear-group-cleared.ensures c.index-row-cleared.is in
+    let there_is = subst (λ k. c.index-row-cleared.result ≡ get_or row k c.index-row-cleared.result) c.clear_group-cleared.ensures c.index-row-cleared.is in
     below_more _ _ c.loop-i.invariant
     (same_read row i j _ _ here there c.index-row-i.is there_is (not_apart g.met.T.Entry.decides c.index-row-i.result c.index-row-cleared.result c.if-ne.ensures))

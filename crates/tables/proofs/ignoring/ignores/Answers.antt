@@ -20,7 +20,7 @@ returns g c =
     let size : (lawful_size n ≡ true) × (c.in-Some.points ≡ 2 ^ n) = sized-some n c.in-Some.points c.in-Some.ensures in
     let long : 2 ^ n ≤ length row = omega arith in
     let enough : ltb (length row) (2 ^ n) ≡ false = le-ltb (length row) (2 ^ n) long in
-    let Alike : ℕ → Type 0 = λ points. Decides c.cleared-alike.result ((i : ℕ) → i < points → slice_get row i ≡ slice_get row (clear group i)) in (
+    let Alike : ℕ → Type 0 = λ points. Decides c.cleared_alike.result ((i : ℕ) → i < points → slice_get row i ≡ slice_get row (clear group i)) in (
       first_none (ignore_checks n (length row)) (ap (λ b. then_some (not b) Size) size.0, (ap (λ b. then_some b Short) enough, tt)),
-      alike_decides n group (slice_get row) c.cleared-alike.result (subst Alike size.1 c.cleared-alike.ensures),
+      alike_decides n group (slice_get row) c.cleared_alike.result (subst Alike size.1 c.cleared_alike.ensures),
     )

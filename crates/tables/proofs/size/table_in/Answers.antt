@@ -7,7 +7,7 @@ use Rattle.tables.proofs.size.table_in.Goals as goal
 
 pub returns : goal.returns
 returns c =
-    let points : c.unwrap-or-points.result ≡ unwrap_or (sized c.args.variables) 0 = c.unwrap-or-points.ensures ∙ ap (λ o. unwrap_or o 0) c.points.ensures in
+    let points : c.unwrap_or-points.result ≡ unwrap_or (sized c.args.variables) 0 = c.unwrap_or-points.ensures ∙ ap (λ o. unwrap_or o 0) c.points.ensures in
     let most : c.min.result - 0 ≡ min (unwrap_or (sized c.args.variables) 0) (length c.args.row.now) =
     sub-zero c.min.result ∙ c.min.ensures ∙ ap (λ p. min p (length c.args.row.now)) points in
     take_most c.args.row.now (c.min.result - 0) (unwrap_or (sized c.args.variables) 0) most

@@ -7,17 +7,17 @@ use Rattle.xorset.proofs.xor.find_values.Goals as goal
 
 pub loop-root-init : goal.loop-root-init
 loop-root-init c =
-    let vs : List ℕ = c.mark-links.new.values in (
+    let vs : List ℕ = c.mark_links.new.values in (
       ap length c.new-stack.ensures.lent ∙ c.requires.rows.1.1,
       record {
         empty = c.new-stack.ensures.empty.0;
-        going = begin c.args.variables (code c.args.table.now) c.args.left c.args.right vs c.mark-links.ensures (omega (arith, c.requires.rows.1.0));
+        going = begin c.args.variables (code c.args.table.now) c.args.left c.args.right vs c.mark_links.ensures (omega (arith, c.requires.rows.1.0));
         past = λ k lt. absurd (let z : ⊥ = omega arith in z);
       },
     )
 
-pub visit-class-requires : goal.visit-class-requires
-visit-class-requires c =
+pub visit_class-requires : goal.visit_class-requires
+visit_class-requires c =
     record {
       fits = (
         record {
@@ -35,10 +35,10 @@ visit-class-requires c =
     }
 
 pub loop-root-preserved : goal.loop-root-preserved
-loop-root-preserved c = (omega (arith, c.visit-class.ensures.cells, c.loop-root.invariant.0), c.if-not-visit-class.ensures.passed)
+loop-root-preserved c = (omega (arith, c.visit_class.ensures.cells, c.loop-root.invariant.0), c.if-not-visit_class.ensures.passed)
 
-pub returns-then-not-visit-class : goal.returns-then-not-visit-class
-returns-then-not-visit-class c = record { found = c.if-not-visit-class.ensures.passed; long = omega arith }
+pub returns-then-not-visit_class : goal.returns-then-not-visit_class
+returns-then-not-visit_class c = record { found = c.if-not-visit_class.ensures.passed; long = omega arith }
 
 pub returns : goal.returns
 returns c =

@@ -20,8 +20,8 @@ loop-i-preserved c =
     let below : i < 2 ^ frame.variables = omega (arith, c.requires.points) in
     elim c.if-table-i-lt2.branch [
       | then-table-i-lt2 w ↦ mark_turn frame.variables (code c.args.table.now) frame.left frame.right c.loop-i.values c.if-table-i-lt2.values i
-          w.cell-of.result w.cell-of-then-table-i-lt2.result c.loop-i.invariant long below w.if-table-i-lt2.true w.cell-of.ensures
-          w.cell-of-then-table-i-lt2.ensures w.values-is
+          w.cell_of.result w.cell_of-then-table-i-lt2.result c.loop-i.invariant long below w.if-table-i-lt2.true w.cell_of.ensures
+          w.cell_of-then-table-i-lt2.ensures w.values-is
       | else-table-i-lt2 w ↦ subst (λ vs. Marked frame.variables (code c.args.table.now) frame.left frame.right (i + 1) vs) (sym w.values-is)
           (mark_skip frame.variables (code c.args.table.now) frame.left frame.right c.loop-i.values i c.loop-i.invariant w.if-table-i-lt2.false)
     ]

@@ -14,8 +14,8 @@ loop-cell-init c =
       went_none frame.variables (code c.args.table.now) frame.left frame.right c.args.values.now (held c.args.stack.now) c.requires.going,
     )
 
-pub visit-of-requires : goal.visit-of-requires
-visit-of-requires c =
+pub visit_of-requires : goal.visit_of-requires
+visit_of-requires c =
     let frame = c.args.frame in
     record {
       points = c.requires.fits.0.points;
@@ -24,14 +24,14 @@ visit-of-requires c =
           c.in-Ok.cell c.in-Ok.ensures.popped.0 c.loop-cell.invariant.1.going;
     }
 
-pub visit-links-requires : goal.visit-links-requires
-visit-links-requires c =
+pub visit_links-requires : goal.visit_links-requires
+visit_links-requires c =
     let frame = c.args.frame in
     let table : List ℕ = c.args.table.now in
     let vs : List ℕ = c.loop-cell.values in
     let going = c.loop-cell.invariant.1.going in
     let last = c.in-Ok.ensures.popped.0 in
-    let same = c.visit-of.ensures.cell in
+    let same = c.visit_of.ensures.cell in
     record {
       fits = (
         record {
@@ -45,44 +45,44 @@ visit-links-requires c =
         omega (arith, c.pop.ensures.room, c.loop-cell.invariant.0),
       );
       visits = (
-        c.visit-of.ensures.visits,
+        c.visit_of.ensures.visits,
         subst (λ x. get_or vs x 2 < 2) (sym same)
             (popped_valued frame.variables (code table) frame.left frame.right vs (held c.loop-cell.stack) (held c.pop.new.self) c.in-Ok.cell last going),
       );
       going = popped frame.variables (code table) frame.left frame.right vs (held c.loop-cell.stack) (held c.pop.new.self) c.in-Ok.cell last
-          c.visit-of.result.cell same going;
+          c.visit_of.result.cell same going;
     }
 
-pub returns-then-not-visit-links : goal.returns-then-not-visit-links
-returns-then-not-visit-links c =
+pub returns-then-not-visit_links : goal.returns-then-not-visit_links
+returns-then-not-visit_links c =
     record {
-      came = c.if-not-visit-links.ensures.came;
+      came = c.if-not-visit_links.ensures.came;
       empty = λ e. clash (cc);
-      cells = omega (arith, c.visit-links.ensures.cells, c.pop.ensures.room, c.loop-cell.invariant.0, c.requires.fits.1);
+      cells = omega (arith, c.visit_links.ensures.cells, c.pop.ensures.room, c.loop-cell.invariant.0, c.requires.fits.1);
     }
 
 pub loop-cell-smaller : goal.loop-cell-smaller
 loop-cell-smaller c =
     let frame = c.args.frame in
     went_less frame.variables (code c.args.table.now) frame.left frame.right c.loop-cell.values (held c.loop-cell.stack) (held c.pop.new.self)
-    c.in-Ok.cell c.in-Ok.ensures.popped.0 c.visit-links.new.values (held c.visit-links.new.stack) c.if-not-visit-links.ensures.came
+    c.in-Ok.cell c.in-Ok.ensures.popped.0 c.visit_links.new.values (held c.visit_links.new.stack) c.if-not-visit_links.ensures.came
 
 pub loop-cell-preserved : goal.loop-cell-preserved
 loop-cell-preserved c =
     let frame = c.args.frame in (
-      omega (arith, c.visit-links.ensures.cells, c.pop.ensures.room, c.loop-cell.invariant.0),
+      omega (arith, c.visit_links.ensures.cells, c.pop.ensures.room, c.loop-cell.invariant.0),
       went_on frame.variables (code c.args.table.now) frame.left frame.right c.loop-cell.values (held c.loop-cell.stack) (held c.pop.new.self)
-          c.in-Ok.cell c.in-Ok.ensures.popped.0 c.args.values.now (held c.args.stack.now) c.visit-links.new.values (held c.visit-links.new.stack)
-          c.loop-cell.invariant.1 c.if-not-visit-links.ensures.came,
+          c.in-Ok.cell c.in-Ok.ensures.popped.0 c.args.values.now (held c.args.stack.now) c.visit_links.new.values (held c.visit_links.new.stack)
+          c.loop-cell.invariant.1 c.if-not-visit_links.ensures.came,
     )
 
 pub returns : goal.returns
 returns c =
     let frame = c.args.frame in
-    let same = ap held c.in-default.ensures.popped.1 in
+    let same = ap held c.in_default.ensures.popped.1 in
     record {
       came = subst (λ x. Went frame.variables (code c.args.table.now) frame.left frame.right c.args.values.now (held c.args.stack.now) c.loop-cell.values x)
           (sym same) c.loop-cell.invariant.1;
-      empty = λ _. same ∙ c.in-default.ensures.popped.2;
+      empty = λ _. same ∙ c.in_default.ensures.popped.2;
       cells = omega (arith, c.pop.ensures.room, c.loop-cell.invariant.0, c.requires.fits.1);
     }

@@ -18,8 +18,8 @@ returns-then-values-root-ne-WAITING c =
       cells = refl;
     }
 
-pub visit-all-requires : goal.visit-all-requires
-visit-all-requires c =
+pub visit_all-requires : goal.visit_all-requires
+visit_all-requires c =
     let frame = c.args.frame in
     let vs : List ℕ = c.args.values.now in
     let read : get_or vs c.args.root 0 ≡ get_or vs c.args.root 2 = get_or_default vs c.args.root 0 2 (omega (arith, c.requires.root, c.requires.fits.0.values)) in
@@ -48,7 +48,7 @@ returns c =
     let read : get_or vs c.args.root 0 ≡ get_or vs c.args.root 2 = get_or_default vs c.args.root 0 2 (omega (arith, c.requires.root, c.requires.fits.0.values)) in
     record {
       passed = class_passed frame.variables (code c.args.table.now) frame.left frame.right vs (held c.args.stack.now) c.args.root c.requires.going
-          c.visit-all.result (held c.push.new.self) c.visit-all.new.values (held c.visit-all.new.stack) (sym read ∙ c.if-values-root-ne-WAITING.false)
-          c.visit-all.ensures.came c.visit-all.ensures.empty;
-      cells = c.visit-all.ensures.cells ∙ c.push.ensures.room;
+          c.visit_all.result (held c.push.new.self) c.visit_all.new.values (held c.visit_all.new.stack) (sym read ∙ c.if-values-root-ne-WAITING.false)
+          c.visit_all.ensures.came c.visit_all.ensures.empty;
+      cells = c.visit_all.ensures.cells ∙ c.push.ensures.room;
     }

@@ -20,8 +20,8 @@ loop-frame-init c =
           c.requires.visits.1 c.requires.going,
     )
 
-pub overflow-add-i : goal.overflow-add-i
-overflow-add-i c =
+pub overflow_add-i : goal.overflow_add-i
+overflow_add-i c =
     let frame = c.args.frame in
     omega (
       arith,
@@ -29,8 +29,8 @@ overflow-add-i c =
       assignment_below frame.variables (code c.args.table.now) frame.left frame.right c.args.visit c.requires.visits.0 c.loop-frame.part c.loop-frame.invariant.0,
     )
 
-pub cell-of-other-requires : goal.cell-of-other-requires
-cell-of-other-requires c =
+pub cell_of-other-requires : goal.cell_of-other-requires
+cell_of-other-requires c =
     let frame = c.args.frame in
     record {
       points = (c.requires.fits.0.points, c.requires.fits.0.variables);
@@ -46,29 +46,29 @@ bounds-table-i c =
       assignment_below frame.variables (code c.args.table.now) frame.left frame.right c.args.visit c.requires.visits.0 c.loop-frame.part c.loop-frame.invariant.0,
     )
 
-pub follow-link-requires : goal.follow-link-requires
-follow-link-requires c =
+pub follow_link-requires : goal.follow_link-requires
+follow_link-requires c =
     let frame = c.args.frame in
     let below =
     other_below frame.variables (code c.args.table.now) frame.left frame.right c.args.visit c.requires.visits.0 c.loop-frame.part c.loop-frame.invariant.0 in
     record {
       value = c.loop-frame.invariant.2.small;
       other = (
-        omega (arith, c.loop-frame.invariant.2.going.long, c.cell-of-other.ensures),
+        omega (arith, c.loop-frame.invariant.2.going.long, c.cell_of-other.ensures),
         omega (arith, c.loop-frame.invariant.2.going.long, points_small frame.variables c.requires.fits.0.variables),
       );
       room = omega (arith, c.loop-frame.invariant.2.going.room, c.loop-frame.invariant.1);
     }
 
-pub returns-then-not-follow-link : goal.returns-then-not-follow-link
-returns-then-not-follow-link c =
+pub returns-then-not-follow_link : goal.returns-then-not-follow_link
+returns-then-not-follow_link c =
     let frame = c.args.frame in
     record {
       came = turn_conflict frame.variables (code c.args.table.now) frame.left frame.right c.args.visit c.requires.visits.0 c.args.values.now
           (held c.args.stack.now) c.loop-frame.values (held c.loop-frame.stack) (get_or c.args.values.now c.args.visit.cell 0) c.loop-frame.part
-          c.loop-frame.invariant.0 c.loop-frame.invariant.2 c.cell-of-other.result c.follow-link.new.values (held c.follow-link.new.stack) c.cell-of-other.ensures
-          c.if-not-follow-link.ensures.followed;
-      cells = omega (arith, c.follow-link.ensures.cells, c.loop-frame.invariant.1, c.requires.fits.1);
+          c.loop-frame.invariant.0 c.loop-frame.invariant.2 c.cell_of-other.result c.follow_link.new.values (held c.follow_link.new.stack) c.cell_of-other.ensures
+          c.if-not-follow_link.ensures.followed;
+      cells = omega (arith, c.follow_link.ensures.cells, c.loop-frame.invariant.1, c.requires.fits.1);
     }
 
 pub returns-then-part-eq0 : goal.returns-then-part-eq0
@@ -77,13 +77,13 @@ returns-then-part-eq0 c =
     let done =
     turn_done frame.variables (code c.args.table.now) frame.left frame.right c.args.visit c.requires.visits.0 c.args.values.now
     (held c.args.stack.now) c.loop-frame.values (held c.loop-frame.stack) (get_or c.args.values.now c.args.visit.cell 0) c.loop-frame.part
-    c.loop-frame.invariant.0 c.loop-frame.invariant.2 c.cell-of-other.result c.follow-link.new.values (held c.follow-link.new.stack) c.cell-of-other.ensures
-    c.if-not-follow-link.ensures.followed in
+    c.loop-frame.invariant.0 c.loop-frame.invariant.2 c.cell_of-other.result c.follow_link.new.values (held c.follow_link.new.stack) c.cell_of-other.ensures
+    c.if-not-follow_link.ensures.followed in
     record {
       came = turn_last frame.variables (code c.args.table.now) frame.left frame.right c.args.visit c.requires.visits.0 c.args.values.now
-          (held c.args.stack.now) c.follow-link.new.values (held c.follow-link.new.stack) (get_or c.args.values.now c.args.visit.cell 0) c.loop-frame.part
+          (held c.args.stack.now) c.follow_link.new.values (held c.follow_link.new.stack) (get_or c.args.values.now c.args.visit.cell 0) c.loop-frame.part
           c.if-part-eq0.true done;
-      cells = omega (arith, c.follow-link.ensures.cells, c.loop-frame.invariant.1, c.requires.fits.1);
+      cells = omega (arith, c.follow_link.ensures.cells, c.loop-frame.invariant.1, c.requires.fits.1);
     }
 
 pub loop-frame-smaller : goal.loop-frame-smaller
@@ -95,11 +95,11 @@ loop-frame-preserved c =
     let done =
     turn_done frame.variables (code c.args.table.now) frame.left frame.right c.args.visit c.requires.visits.0 c.args.values.now
     (held c.args.stack.now) c.loop-frame.values (held c.loop-frame.stack) (get_or c.args.values.now c.args.visit.cell 0) c.loop-frame.part
-    c.loop-frame.invariant.0 c.loop-frame.invariant.2 c.cell-of-other.result c.follow-link.new.values (held c.follow-link.new.stack) c.cell-of-other.ensures
-    c.if-not-follow-link.ensures.followed in (
+    c.loop-frame.invariant.0 c.loop-frame.invariant.2 c.cell_of-other.result c.follow_link.new.values (held c.follow_link.new.stack) c.cell_of-other.ensures
+    c.if-not-follow_link.ensures.followed in (
       and_inside (c.loop-frame.part - 1) c.args.visit.group,
-      omega (arith, c.follow-link.ensures.cells, c.loop-frame.invariant.1),
+      omega (arith, c.follow_link.ensures.cells, c.loop-frame.invariant.1),
       turn_next frame.variables (code c.args.table.now) frame.left frame.right c.args.visit c.requires.visits.0 c.args.values.now
-          (held c.args.stack.now) c.follow-link.new.values (held c.follow-link.new.stack) (get_or c.args.values.now c.args.visit.cell 0) c.loop-frame.part
+          (held c.args.stack.now) c.follow_link.new.values (held c.follow_link.new.stack) (get_or c.args.values.now c.args.visit.cell 0) c.loop-frame.part
           c.loop-frame.invariant.0 done,
     )

@@ -7,21 +7,21 @@ use Rattle.xorset.proofs.xor.write_parts.Goals as goal
 pub loop-i-init : goal.loop-i-init
 loop-i-init c = (refl, refl)
 
-pub overflow-cast-left-row : goal.overflow-cast-left-row
-overflow-cast-left-row c =
+pub overflow_cast-left_row : goal.overflow_cast-left_row
+overflow_cast-left_row c =
     let i : ℕ = c.loop-i.i in
     let below : i < 2 ^ c.args.variables = omega (arith, c.requires.rows.1.0) in
     let inside = left_inside c.args.variables c.args.right i below in
-    omega (arith, code_small c.args.values.now c.cell-of.result (left_cell c.args.right i) c.cell-of.ensures (omega (arith, c.requires.rows.0)) (c.requires.codes i below).0)
+    omega (arith, code_small c.args.values.now c.cell_of.result (left_cell c.args.right i) c.cell_of.ensures (omega (arith, c.requires.rows.0)) (c.requires.codes i below).0)
 
-pub overflow-cast-right-row : goal.overflow-cast-right-row
-overflow-cast-right-row c =
+pub overflow_cast-right_row : goal.overflow_cast-right_row
+overflow_cast-right_row c =
     let i : ℕ = c.loop-i.i in
     let below : i < 2 ^ c.args.variables = omega (arith, c.requires.rows.1.0) in
     let inside = right_inside c.args.variables c.args.left i below in
     omega (
       arith,
-      code_small c.args.values.now c.cell-of-in-loop-i.result (right_cell c.args.variables c.args.left i) c.cell-of-in-loop-i.ensures
+      code_small c.args.values.now c.cell_of-in-loop-i.result (right_cell c.args.variables c.args.left i) c.cell_of-in-loop-i.ensures
           (omega (arith, c.requires.rows.0)) (c.requires.codes i below).1,
     )
 
@@ -32,10 +32,10 @@ loop-i-preserved c =
     let below : i < 2 ^ n = omega (arith, c.requires.rows.1.0) in
     let left = left_inside n c.args.right i below in
     let right = right_inside n c.args.left i below in (
-      code_more c.args.values.now (left_cell c.args.right) (2 ^ n) c.args.left_row.now c.requires.rows.1.0 c.loop-i.left_row i c.cell-of.result
-          c.loop-i.invariant.0 c.cell-of.ensures (omega (arith, c.requires.rows.0)) below,
-      code_more c.args.values.now (right_cell n c.args.left) (2 ^ n) c.args.right_row.now c.requires.rows.1.1 c.loop-i.right_row i c.cell-of-in-loop-i.result
-          c.loop-i.invariant.1 c.cell-of-in-loop-i.ensures (omega (arith, c.requires.rows.0)) below,
+      code_more c.args.values.now (left_cell c.args.right) (2 ^ n) c.args.left_row.now c.requires.rows.1.0 c.loop-i.left_row i c.cell_of.result
+          c.loop-i.invariant.0 c.cell_of.ensures (omega (arith, c.requires.rows.0)) below,
+      code_more c.args.values.now (right_cell n c.args.left) (2 ^ n) c.args.right_row.now c.requires.rows.1.1 c.loop-i.right_row i c.cell_of-in-loop-i.result
+          c.loop-i.invariant.1 c.cell_of-in-loop-i.ensures (omega (arith, c.requires.rows.0)) below,
     )
 
 pub returns : goal.returns
