@@ -258,7 +258,6 @@ none-looked none_looked
 none-spare none_spare
 not-apart not_apart
 not-both not_both
-not-false not_false
 not-refused not_refused
 nothing-free nothing_free
 oddOf odd_of

@@ -1,7 +1,7 @@
 -- How a split is shown by how it ended, and what is known where the early checks pass.
 use Rattle.std.proofs.Common.{◌≡◌, ℕ, ◌^◌, ◌<◌, ◌≤◌, Bool, true, not, eqb, List, length, None, Ok, ap}
 use Rattle.std.specs.Bool.{then_some}
-use Rattle.std.proofs.lemmas.Bool.{and_parts, leb-false, leb-true, not_false}
+use Rattle.std.proofs.lemmas.Bool.{and_parts, leb-false, leb-true, not-false}
 use Rattle.tables.specs.Tables.{Allows, lawful_size}
 use Rattle.tables.proofs.Passing.{all_pass, then_some-none}
 use Rattle.gatesets.specs.declared.refusal.SplitRefusal.{SplitRefusal}
@@ -32,7 +32,7 @@ pub record Passed (count : ℕ) (ask : Request) (lent : Rows) : Type 0 where
 
 -- a test whose failure would refuse has not failed
 not_refused : (b : Bool) (refusal : SplitRefusal) → then_some (not b) refusal ≡ None → b ≡ true
-not_refused b refusal e = not_false b (then_some-none (not b) refusal e)
+not_refused b refusal e = not-false b (then_some-none (not b) refusal e)
 
 module _ (count : ℕ) (ask : Request) (lent : Rows) where
   -- they follow where no check refuses

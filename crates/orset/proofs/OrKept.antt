@@ -14,9 +14,9 @@ use Rattle.orset.specs.Or.{OrGives, code_by, lower_left, lower_right, or_gate, o
 use Rattle.orset.specs.Cells.{fails_at, left_one_at, right_one_at, zero_at}
 
 -- the truth values that the rule asks for
-not_false : (b : Bool) → not b ≡ true → b ≡ false
-not_false true e = absurd (both_ways false refl e)
-not_false false e = refl
+not-false : (b : Bool) → not b ≡ true → b ≡ false
+not-false true e = absurd (both_ways false refl e)
+not-false false e = refl
 
 -- a test that finds a code 1 where neither part may be 1
 three : (a b c : Bool) → a && (not b && not c) ≡ true → (a ≡ true) × (b ≡ false) × (c ≡ false)
@@ -84,7 +84,7 @@ module _ (n : ℕ) (t : ℕ → ℕ) (l r : ℕ) where
             let parts = and_parts (eqb (t j) 1) (not (upper (2 ^ n) t l j)) both in
             elim (bounded j hj (eqb-true _ _ parts.0)) [
               | inl u ↦ upper_same r i j e ∙ u
-              | inr u ↦ absurd (both_ways _ (not_false _ parts.1) u)
+              | inr u ↦ absurd (both_ways _ (not-false _ parts.1) u)
             ]
 
     -- and the right part
@@ -98,7 +98,7 @@ module _ (n : ℕ) (t : ℕ → ℕ) (l r : ℕ) where
               | inl u ↦ upper_same l i j e ∙ u
               | inr u ↦
                   let must : lower_left (2 ^ n) t l r j ≡ true = within_here (2 ^ n) r (left_one_at (2 ^ n) t l) j hj (rw (parts.0, u) refl) in
-                  absurd (both_ways _ (not_false _ parts.1) must)
+                  absurd (both_ways _ (not-false _ parts.1) must)
             ]
 
     -- the rows join to what the table allows

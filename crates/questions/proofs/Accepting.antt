@@ -1,7 +1,7 @@
 -- What the writer's checks say of a table that passes them, and of the entry that is then written.
 use Rattle.std.proofs.Common.{◌≡◌, ℕ, ◌+◌, ◌^◌, ◌<◌, ◌≤◌, true, cond, not, leb, List, [], ◌++◌, length, get_or, take, drop, is_some, Some, None, Ok, Option, sym, refl, ap, ◌∙◌, subst, ap₂, subst₂, one-add}
 use Rattle.std.proofs.lemmas.List.{append-nil, length-append, take_at}
-use Rattle.std.proofs.lemmas.Bool.{not_false, and_parts, or_parts, leb-true, ltb-false, eqb-false}
+use Rattle.std.proofs.lemmas.Bool.{not-false, and_parts, or_parts, leb-true, ltb-false, eqb-false}
 use Rattle.tables.specs.Checks.{first, lowest, answered}
 use Rattle.tables.specs.Tables.{lawful_size}
 use Rattle.tables.proofs.Passing.{clash, all_pass, then_some-none, mapped_none, none_below}
@@ -30,7 +30,7 @@ lawful_bounds n e = let p = and_parts (leb 1 n) (leb n 10) e in (leb-true 1 n p.
 -- so does that of a table that passes
 pub passed_bounds : (n : ℕ) (codes : List ℕ) (room : ℕ) → first (write_checks n codes room) ≡ None → (1 ≤ n) × (n ≤ 10)
 passed_bounds n codes room e =
-    lawful_bounds n (not_false (lawful_size n) (then_some-none (not (lawful_size n)) Variables (all_pass (write_checks n codes room) e).0))
+    lawful_bounds n (not-false (lawful_size n) (then_some-none (not (lawful_size n)) Variables (all_pass (write_checks n codes room) e).0))
 
 -- the entry of a table that passes the checks is read back as that table
 pub passed_returns : (n : ℕ) (codes : List ℕ) (room : ℕ) → first (write_checks n codes room) ≡ None → ReadsBack n codes (entry_bytes n codes)

@@ -2,7 +2,7 @@
 use Rattle.std.proofs.Common.{◌≡◌, ℕ, ◌+◌, ◌-◌, ◌^◌, ◌<◌, ◌≤◌, true, cond, not, List, [], ◌∷◌, ◌++◌, length, get_or, take, drop, Some, None, Ok, Err, Option, Result, unwrap_or, sym, ap, ◌∙◌, subst, ap₂, arith}
 use Rattle.std.proofs.lemmas.List.FromFn.{length-map-range_with_len}
 use Rattle.std.proofs.lemmas.List.{append_assoc, append-nil, length-drop, take_at}
-use Rattle.std.proofs.lemmas.Bool.{not_false, or_parts, ltb-false}
+use Rattle.std.proofs.lemmas.Bool.{not-false, or_parts, ltb-false}
 use Rattle.tables.specs.Tables.{lawful_size, sized}
 use Rattle.tables.proofs.Passing.{all_pass, then_some-none, answered_ok}
 use Rattle.questions.specs.declared.listing.Stop.{Stop}
@@ -37,7 +37,7 @@ sized_entry file at room e h = subst (Sized file at) ok.1 here
         let short = or_parts _ _ (then_some-none _ TooShort passed.1.1.0) in
         let long : entry_length n form ≤ length (drop at file) = ltb-false (length (drop at file)) (entry_length n form) short.0 in
         record {
-          lawful = not_false (lawful_size n) (then_some-none (not (lawful_size n)) Variables passed.1.0);
+          lawful = not-false (lawful_size n) (then_some-none (not (lawful_size n)) Variables passed.1.0);
           onward = omega (arith, entry_some n form);
           within = λ l. omega (arith, length-drop at file);
         }
