@@ -1,5 +1,5 @@
 -- A file holds one list of entries only, since the reader gives one answer at each byte number.
-use Rattle.std.proofs.Common.{◌≡◌, ℕ, ◌<◌, ◌≤◌, [], ◌∷◌, length, Some, Ok, Err, Result, sym, refl, ap, subst, ap₂, arith}
+use Rattle.std.proofs.Common.{◌≡◌, ℕ, ◌<◌, ◌≤◌, ◌∷◌, length, Some, Ok, Err, Result, sym, refl, ap, subst, ap₂, arith}
 use Rattle.tables.proofs.Passing.{clash}
 use Rattle.questions.specs.declared.fault.EntryFault.{EntryFault}
 use Rattle.questions.specs.declared.reader.Entry.{Entry}

@@ -19,7 +19,7 @@ returns c =
     let told = c.in_ok-size.ensures in
     let ok = answered_ok (first (write_checks n codes any_entry)) (entry_length n (form_for n codes)) size (sym told.answer) in
     let bytes = c.in_ok-extend_from_slice.ensures.items in
-    let form = c.heading_form.ensures.1 ∙ front_form n codes _ out told.out (passed_bounds n codes any_entry ok.0).1 in
+    let form = c.heading-form.ensures.1 ∙ front_form n codes _ out told.out (passed_bounds n codes any_entry ok.0).1 in
     let grown = bytes ∙ ap (λ k. vec_items c.args.dictionary.now ++ take k out) (sub-zero size)
     ∙ ap (λ xs. vec_items c.args.dictionary.now ++ xs) (front_entry n codes _ out told.out size ok.1) in
     let entry_is = ap₂ (entry_by n) form (c.len.ensures ∙ c.extend_from_slice.new.self.ok.0) in

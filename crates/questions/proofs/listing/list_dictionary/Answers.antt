@@ -9,7 +9,7 @@ use Rattle.questions.proofs.Holding.{holds_one_list}
 use Rattle.questions.proofs.Walking.{passed_more, passed_all, passed_stop, front_codes, read_any, sized_entry, onward}
 use Rattle.questions.proofs.listing.list_dictionary.Goals as goal
 
-accepted : (c : goal.In-ok-push) → reading c.args.file.now c.loop-at.at any_table ≡ Ok c.in-Ok.entry
+accepted : (c : goal.In_ok-push-in-Ok) → reading c.args.file.now c.loop-at.at any_table ≡ Ok c.in-Ok.entry
 accepted c = read_any c.args.file.now c.loop-at.at _ c.loop-at.invariant.0 c.in-Ok.ensures.answer
 
 pub loop-at-preserved : goal.loop-at-preserved
@@ -25,7 +25,7 @@ loop-at-preserved c =
       (sized_entry file at any_table e (accepted c)).within c.loop-at-test.true,
       (
         done.0 ++ item ∷ [],
-        c.in_ok-push.ensures.items ∙ ap₂ (λ es n. es ++ record { at = at; entry = e; counts = n } ∷ []) done.1 counts ∙ sym (map_push listed done.0 item),
+        c.in_ok-push-in-Ok.ensures.items ∙ ap₂ (λ es n. es ++ record { at = at; entry = e; counts = n } ∷ []) done.1 counts ∙ sym (map_push listed done.0 item),
         passed_more file done.0 at e done.2 c.loop-at-test.true (accepted c),
       ),
     )
@@ -41,8 +41,8 @@ returns-in-Err c =
     let read = read_any file at _ c.loop-at.invariant.0 c.in-Err.ensures.answer in
     record { entries = (done.0, passed_stop file done.0 at c.in-Err.fault done.2 c.loop-at-test.true read, done.1); one_list = holds_one_list }
 
-pub returns-in_err-push : goal.returns-in_err-push
-returns-in_err-push c =
+pub returns-in_err-push-in-Ok : goal.returns-in_err-push-in-Ok
+returns-in_err-push-in-Ok c =
     let p = err_from_is_err_and c.from_residual.result c.from_residual.ensures.1 in
     rw p.1 (record { entries = tt; one_list = holds_one_list })
 

@@ -1,5 +1,5 @@
 -- Each turn writes one code of the table; at the end the row begins with the table.
-use Rattle.std.proofs.Common.{◌≡◌, ◌+◌, ◌^◌, ◌++◌, drop, ap, ◌∙◌, zero-add, arith}
+use Rattle.std.proofs.Common.{◌≡◌, ◌^◌, ◌++◌, drop, ap, ◌∙◌, zero-add, arith}
 use lib.Seq.{paste}
 use Rattle.tables.proofs.Fills.{fill_more, fill_all}
 use Rattle.questions.specs.Layouts.{code, table}

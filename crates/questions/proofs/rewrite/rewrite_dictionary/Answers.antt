@@ -22,17 +22,17 @@ append_table-requires c =
     let codes = front_codes file at any_table e c.loop-at.row c.read_entry.new.row c.table_in.result.now read c.in-Ok.ensures.row c.table_in.ensures in
     subst (λ cs. first (write_checks e.variables cs any_entry) ≡ None) (sym codes) (lawful_passes (table_of (item_at file at e)) (lawful_item file at any_table e read))
 
-pub returns-in_err-after : goal.returns-in_err-after
-returns-in_err-after c =
+pub returns-in_err-after-in-Ok : goal.returns-in_err-after-in-Ok
+returns-in_err-after-in-Ok c =
     let p = err_from_is_err_and c.from_residual.result c.from_residual.ensures.1 in
-    rw (p.1, p.2) (record { result = subst (NotRewritten c.args.file.now) (sym c.in_err-after.ensures) tt; tables = every_table_reads_back; lists = every_list_reads_back })
+    rw (p.1, p.2) (record { result = subst (NotRewritten c.args.file.now) (sym c.in_err-after-in-Ok.ensures) tt; tables = every_table_reads_back; lists = every_list_reads_back })
 
-pub returns-in_err-push : goal.returns-in_err-push
-returns-in_err-push c =
-    let p = err_from_is_err_and c.from_residual-in_err-push.result c.from_residual-in_err-push.ensures.1 in
+pub returns-in_err-push-in-Ok : goal.returns-in_err-push-in-Ok
+returns-in_err-push-in-Ok c =
+    let p = err_from_is_err_and c.from_residual-in_err-push-in-Ok.result c.from_residual-in_err-push-in-Ok.ensures.1 in
     rw (p.1, p.2) (record { result = tt; tables = every_table_reads_back; lists = every_list_reads_back })
 
-accepted : (c : goal.In-ok-push) → reading c.args.file.now c.loop-at.at any_table ≡ Ok c.in-Ok.entry
+accepted : (c : goal.In_ok-push-in-Ok) → reading c.args.file.now c.loop-at.at any_table ≡ Ok c.in-Ok.entry
 accepted c = read_any c.args.file.now c.loop-at.at _ c.loop-at.invariant.0 c.in-Ok.ensures.answer
 
 pub loop-at-smaller : goal.loop-at-smaller
@@ -46,8 +46,8 @@ loop-at-preserved c =
     let e = c.in-Ok.entry in
     let item = item_at file at e in
     let codes = front_codes file at any_table e c.loop-at.row c.read_entry.new.row c.table_in.result.now (accepted c) c.in-Ok.ensures.row c.table_in.ensures in
-    let bytes = c.in_ok-after.ensures.1 ∙ ap₂ (λ xs cs. xs ++ entry_bytes e.variables cs) done.1 codes ∙ written_push done.0 item in
-    let form = c.in_ok-after.ensures.0 ∙ ap (form_for e.variables) codes in
+    let bytes = c.in_ok-after-in-Ok.ensures.1 ∙ ap₂ (λ xs cs. xs ++ entry_bytes e.variables cs) done.1 codes ∙ written_push done.0 item in
+    let form = c.in_ok-after-in-Ok.ensures.0 ∙ ap (form_for e.variables) codes in
     let to = c.len-to.ensures ∙ c.loop-at.bytes.ok.0 ∙ ap length done.1 ∙ sym (zero-add (length (written (map table_of done.0)))) in
     let gone = ap₂ (λ t f. record { from = at; to = t; before = e.form; after = f }) to form in (
       c.read_entry.auto.row ∙ c.loop-at.invariant.0,
@@ -55,7 +55,7 @@ loop-at-preserved c =
       (
         done.0 ++ item ∷ [],
         bytes,
-        c.in_ok-push.ensures.items ∙ ap₂ (λ es r. es ++ r ∷ []) done.2 gone ∙ sym (rewrites_push 0 done.0 item),
+        c.in_ok-push-in-Ok.ensures.items ∙ ap₂ (λ es r. es ++ r ∷ []) done.2 gone ∙ sym (rewrites_push 0 done.0 item),
         passed_more file done.0 at e done.3 c.loop-at-test.true (accepted c),
         subst (All Lawful) (sym (map_push table_of done.0 item)) (All-push Lawful (map table_of done.0) (table_of item) done.4 (lawful_item file at any_table e (accepted c))),
       ),
