@@ -80,9 +80,9 @@ fn write_parts(
     lefts: &mut [u16],
     rights: &mut [u16],
 ) -> bool
-    requires table_len { length table.now ≡ 2 ^ ask.variables }
-    requires left_len { (length left.old ≡ length table.now) × (length right.old ≡ length table.now) }
-    requires lefts_len { (length lefts.old ≡ length table.now) × (length rights.old ≡ length table.now) }
+    requires table { length table.now ≡ 2 ^ ask.variables }
+    requires parts { (length left.old ≡ length table.now) × (length right.old ≡ length table.now) }
+    requires cells { (length lefts.old ≡ length table.now) × (length rights.old ≡ length table.now) }
     ensures parts { result ≡ true → or_rule ask table.now ≡ two_parts left.new right.new }
     ensures none { result ≡ false → (or_rule ask table.now ≡ no_pair) × (left.new ≡ left.old) × (right.new ≡ right.old) }
 {
@@ -116,9 +116,9 @@ fn lay_zeros(table: &[u8], left: u16, right: u16, lefts: &mut [u16], rights: &mu
 
 // Lays 1 at each left cell with a code 1 at which the right part must be 0; false where the left part must be 0 there too.
 fn lay_left_ones(table: &[u8], left: u16, right: u16, lefts: &mut [u16], rights: &[u16]) -> bool
-    requires lefts_len { (length lefts.old ≡ length table.now) × (length rights.now ≡ length table.now) }
-    requires marked { Marked (length table.now) right (zero_at (code table.now)) 0 (λ _. 2) lefts.old }
-    requires marked_2 { Marked (length table.now) left (zero_at (code table.now)) 0 (λ _. 2) rights.now }
+    requires cells { (length lefts.old ≡ length table.now) × (length rights.now ≡ length table.now) }
+    requires lefts { Marked (length table.now) right (zero_at (code table.now)) 0 (λ _. 2) lefts.old }
+    requires rights { Marked (length table.now) left (zero_at (code table.now)) 0 (λ _. 2) rights.now }
     ensures exact { result ≡ not (or_none (length table.now) (code table.now) left right) }
     ensures laid { result ≡ true → Marked (length table.now) right (left_one_at (length table.now) (code table.now) left) 1 (zeros_laid (length table.now) (code table.now) right) lefts.new }
 {
@@ -136,9 +136,9 @@ fn lay_left_ones(table: &[u8], left: u16, right: u16, lefts: &mut [u16], rights:
 
 // Lays 1 at each right cell with a code 1 at which the left part need not be 1.
 fn lay_right_ones(table: &[u8], left: u16, right: u16, lefts: &[u16], rights: &mut [u16])
-    requires lefts_len { (length lefts.now ≡ length table.now) × (length rights.old ≡ length table.now) }
-    requires marked { Marked (length table.now) right (left_one_at (length table.now) (code table.now) left) 1 (zeros_laid (length table.now) (code table.now) right) lefts.now }
-    requires marked_2 { Marked (length table.now) left (zero_at (code table.now)) 0 (λ _. 2) rights.old }
+    requires cells { (length lefts.now ≡ length table.now) × (length rights.old ≡ length table.now) }
+    requires lefts { Marked (length table.now) right (left_one_at (length table.now) (code table.now) left) 1 (zeros_laid (length table.now) (code table.now) right) lefts.now }
+    requires rights { Marked (length table.now) left (zero_at (code table.now)) 0 (λ _. 2) rights.old }
     ensures { Marked (length table.now) left (right_one_at (length table.now) (code table.now) left right) 1 (zeros_laid (length table.now) (code table.now) left) rights.new }
 {
     for index in 0..table.len() {
@@ -150,8 +150,8 @@ fn lay_right_ones(table: &[u8], left: u16, right: u16, lefts: &[u16], rights: &m
 
 // Gives every assignment the codes of its two cells.
 fn write_codes(ask: Request, lefts: &[u16], rights: &[u16], left: &mut [u8], right: &mut [u8])
-    requires lefts_len { (length lefts.now ≡ length left.old) × (length rights.now ≡ length left.old) × (length right.old ≡ length left.old) }
-    requires by_index { (c : ℕ) → c < length lefts.now → (slice_index lefts.now c ≤ 2) × (slice_index rights.now c ≤ 2) }
+    requires cells { (length lefts.now ≡ length left.old) × (length rights.now ≡ length left.old) × (length right.old ≡ length left.old) }
+    requires codes { (c : ℕ) → c < length lefts.now → (slice_index lefts.now c ≤ 2) × (slice_index rights.now c ≤ 2) }
     ensures left { left.new ≡ map (λ i. slice_index lefts.now (clear ask.right i)) (range_with_len 0 (length left.old)) }
     ensures right { right.new ≡ map (λ i. slice_index rights.now (clear ask.left i)) (range_with_len 0 (length right.old)) }
 {

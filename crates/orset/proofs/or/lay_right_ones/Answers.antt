@@ -17,14 +17,14 @@ loop-index-preserved c =
     elim c.if-table-index-eq1.branch [
       | goal.then-table-index-eq1+then-lefts-clear_group-ne1 w ↦
           turn_more l (right_one_at m t l r) 1 (zeros_laid m t l) m i _ c.loop-index.rights _ w.rights-is w.clear_group-then-lefts-clear_group-ne1.ensures
-          (right_needs m t l r i c.args.lefts.now c.loop-index.rights c.loop-index-test.true c.requires.0.0 c.requires.1 _ w.clear_group.ensures
+          (right_needs m t l r i c.args.lefts.now c.loop-index.rights c.loop-index-test.true c.requires.cells.0 c.requires.lefts _ w.clear_group.ensures
           w.if-table-index-eq1.true w.if-lefts-clear_group-ne1.true)
           c.loop-index-test.true c.loop-index.invariant
       | goal.else-table-index-eq1 w ↦
           elim w.else-table-index-eq1.branch [
             | goal.else-table-index-eq1-via-then-table-index-eq1+else-lefts-clear_group-ne1 v ↦
                 turn_kept l (right_one_at m t l r) 1 (zeros_laid m t l) m i c.loop-index.rights _ w.rights-is
-                (right_free m t l r i c.args.lefts.now c.loop-index.rights c.loop-index-test.true c.requires.0.0 c.requires.1 _ v.clear_group.ensures
+                (right_free m t l r i c.args.lefts.now c.loop-index.rights c.loop-index-test.true c.requires.cells.0 c.requires.lefts _ v.clear_group.ensures
                 v.if-lefts-clear_group-ne1.false)
                 c.loop-index.invariant
             | goal.else-table-index-eq1-via-else-table-index-eq1 v ↦
