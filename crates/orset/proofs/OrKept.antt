@@ -7,7 +7,7 @@ use Rattle.tables.proofs.Bounded.{itself, some_decides}
 use Rattle.tables.proofs.Clearing.{SameCleared, agree_decides, ignores_cleared}
 use Rattle.tables.proofs.Within.{Within, within_decides, within_here, within_same, within_still}
 use Rattle.gatesets.specs.declared.request.Request.{Request}
-use Rattle.gatesets.specs.Rules.{codes, no_pair, two_parts}
+use Rattle.gatesets.specs.Rules.{no_pair, two_parts}
 use Rattle.gatesets.specs.Splits.{Pair, Parts, code}
 use Rattle.gatesets.proofs.CodeRows.{codes_parts, joined_of, ruled_none, ruled_parts}
 use Rattle.orset.specs.Or.{OrGives, code_by, lower_left, lower_right, or_gate, or_left_code, or_none, or_right_code, or_rule, upper}
