@@ -1,6 +1,6 @@
 -- Lists of tables: each table that was read can be written, and a list that is written one after the other reads back.
 use Rattle.std.proofs.Common.{◌≡◌, ℕ, ◌+◌, ◌^◌, ◌<◌, ◌≤◌, false, not, List, [], ◌∷◌, ◌++◌, map, length, get_or, take, drop, None, Ok, sym, refl, ap, ◌∙◌, ap₂, subst₂, add-zero, arith, pow_mono}
-use Rattle.std.specs.List.{range_with_len, AllByRecursion as All}
+use Rattle.std.specs.List.{range_with_len, AllByRecursion}
 use Rattle.std.specs.Option.{option_map}
 use Rattle.std.specs.Bool.{then_some}
 use Rattle.std.proofs.lemmas.List.FromFn.{length-map-range_with_len}
@@ -24,7 +24,7 @@ use Rattle.questions.proofs.Accepting.{lawful_bounds, passed_returns}
 use Rattle.questions.proofs.Walking.{sized_entry}
 
 -- what holds of everything holds of each element
-all_of : {X : Type 0} (P : X → Type 0) → ((x : X) → P x) → (xs : List X) → All P xs
+all_of : {X : Type 0} (P : X → Type 0) → ((x : X) → P x) → (xs : List X) → AllByRecursion P xs
 all_of P h [] = tt
 all_of P h (x ∷ xs) = (h x, all_of P h xs)
 
@@ -92,7 +92,7 @@ first_of t ts h before (items, held, same) =
     )
 
 -- a list of tables that is written behind other bytes reads back from there on
-lists_return : (tables : List Table) → All Lawful tables → (before : List ℕ)
+lists_return : (tables : List Table) → AllByRecursion Lawful tables → (before : List ℕ)
     → (items : List Item) × Holds (before ++ written tables) (length before) items None × (map table_of items ≡ tables)
 lists_return [] h before = ([], ended (length before) (omega (arith, ap length (append-nil before))), refl)
 lists_return (t ∷ ts) h before = first_of t ts h.0 before (lists_return ts h.1 (before ++ entry_bytes t.variables t.codes))

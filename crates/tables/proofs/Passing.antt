@@ -2,7 +2,7 @@
 use Rattle.std.proofs.Common.{◌≡◌, ℕ, zero, suc, ◌+◌, ◌<◌, Bool, true, false, ◌⊎◌, List, [], ◌∷◌, Some, None, Ok, Option, sym, refl, ap, ◌∙◌, ap₂, inl, inr, add-one, arith}
 use Rattle.std.specs.Option.{option_map, option_or}
 use Rattle.std.specs.Bool.{then_some}
-use Rattle.std.specs.List.{AllByRecursion as All}
+use Rattle.std.specs.List.{AllByRecursion}
 use Rattle.std.proofs.lemmas.Bool.{cases_eq}
 use Rattle.tables.specs.Checks.{first, lowest, answered}
 
@@ -16,12 +16,12 @@ option_or-none (Some r) later e = clash (cc)
 option_or-none None later e = (refl, e)
 
 -- and all of a list
-pub all_pass : {F : Type 0} (checks : List (Option F)) → first checks ≡ None → All (λ check. check ≡ None) checks
+pub all_pass : {F : Type 0} (checks : List (Option F)) → first checks ≡ None → AllByRecursion (λ check. check ≡ None) checks
 all_pass [] e = tt
 all_pass (check ∷ checks) e = ((option_or-none check (first checks) e).0, all_pass checks (option_or-none check (first checks) e).1)
 
 -- a list of checks of which none refuses
-pub first_none : {F : Type 0} (checks : List (Option F)) → All (λ check. check ≡ None) checks → first checks ≡ None
+pub first_none : {F : Type 0} (checks : List (Option F)) → AllByRecursion (λ check. check ≡ None) checks → first checks ≡ None
 first_none [] h = refl
 first_none (check ∷ checks) h = ap (λ o. option_or o (first checks)) h.0 ∙ first_none checks h.1
 

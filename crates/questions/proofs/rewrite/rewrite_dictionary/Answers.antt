@@ -1,6 +1,6 @@
 -- Each turn writes one table more; at the end the whole list reads back.
 use Rattle.std.proofs.Common.{◌≡◌, [], ◌∷◌, ◌++◌, map, length, None, Ok, sym, ap, ◌∙◌, subst, ap₂, zero-add}
-use Rattle.std.specs.List.{AllByRecursion as All}
+use Rattle.std.specs.List.{AllByRecursion}
 use Rattle.std.proofs.ByRecursion.{All-push}
 use Rattle.std.proofs.lemmas.List.{map_push}
 use Rattle.std.proofs.lemmas.Result.{err_from_is_err_and}
@@ -57,7 +57,7 @@ loop-at-preserved c =
         bytes,
         c.in_ok-push-in-Ok.ensures.items ∙ ap₂ (λ es r. es ++ r ∷ []) done.2 gone ∙ sym (rewrites_push 0 done.0 item),
         passed_more file done.0 at e done.3 c.loop-at-test.true (accepted c),
-        subst (All Lawful) (sym (map_push table_of done.0 item)) (All-push Lawful (map table_of done.0) (table_of item) done.4 (lawful_item file at any_table e (accepted c))),
+        subst (AllByRecursion Lawful) (sym (map_push table_of done.0 item)) (All-push Lawful (map table_of done.0) (table_of item) done.4 (lawful_item file at any_table e (accepted c))),
       ),
     )
 

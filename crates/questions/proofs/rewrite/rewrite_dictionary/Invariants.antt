@@ -1,6 +1,6 @@
 -- The bytes so far are those of the tables passed on the way to the byte number.
 use Rattle.std.proofs.Common.{◌≡◌, ◌-◌, ◌≤◌, List, map, length, vec_items}
-use Rattle.std.specs.List.{AllByRecursion as All}
+use Rattle.std.specs.List.{AllByRecursion}
 use Rattle.questions.specs.Dictionaries.{Item, table_of, Lawful, written}
 use Rattle.questions.specs.Rewriting.{rewrites}
 use Rattle.questions.proofs.Walking.{Passed}
@@ -15,7 +15,7 @@ invariant-loop-at l =
     × (vec_items l.bytes ≡ written (map table_of done))
     × (vec_items l.entries ≡ rewrites 0 done)
     × Passed l.file done l.at
-    × All Lawful (map table_of done)
+    × AllByRecursion Lawful (map table_of done)
     )
 
 abbrev pub decreases-loop-at : goal.decreases-loop-at
