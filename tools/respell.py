@@ -1,7 +1,7 @@
 #!/usr/bin/env python3
-"""Respells the definitions and lemmas of this repository, once, in the sources, specifications and proofs below crates/.
+"""Respells the definitions and lemmas of this repository, once, in the sources, specifications and proofs below crates/ of a folder.
 
-usage: python3 tools/respell.py [FOLDER]      FOLDER has crates/; the folder above this one where none is given
+usage: python3 tools/respell.py FOLDER      FOLDER has crates/, as the kit's port.py leaves them
 
 Words are in snake case. A dash stays in a lemma's name between the names of two functions. Names of functions in src/, strings and comments keep their spelling.
 Where two names would have fallen together, the lemma or field got another one: only_gate_lem, size_lawful, length-row_bytes, length-rows_in, length-entry_bytes,
@@ -233,7 +233,7 @@ lowest-met lowest_met
 lowest-more lowest_more
 lowest-same lowest_same
 lowest-zero lowest_zero
-mapped-none mapped_none
+mapped-none option_map-none
 mark-kept mark_kept
 mark-link mark_link
 mark-met mark_met
@@ -511,7 +511,12 @@ def line_respelled(line, comment):
 
 
 def main():
-    top = pathlib.Path(sys.argv[1]) if len(sys.argv) > 1 else pathlib.Path(__file__).resolve().parent.parent
+    if len(sys.argv) != 2:
+        sys.exit(__doc__)
+    top = pathlib.Path(sys.argv[1])
+    first = top / "crates/tables/specs/Tables.antt"
+    if "lawfulSize" not in first.read_text(encoding="utf-8"):
+        sys.exit(f"{first} is respelled already; a second run would turn names that others became")
     changed = 0
     for path in sorted(top.glob("crates/**/*")):
         if path.suffix not in (".rt", ".antt") or "out" in path.parts:

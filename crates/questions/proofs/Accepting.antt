@@ -4,7 +4,7 @@ use Rattle.std.proofs.lemmas.List.{append-nil, length-append, take_at}
 use Rattle.std.proofs.lemmas.Bool.{not-false, and_parts, or_parts, leb-true, ltb-false, eqb-false}
 use Rattle.tables.specs.Checks.{first, lowest, answered}
 use Rattle.tables.specs.Tables.{lawful_size}
-use Rattle.tables.proofs.Passing.{clash, all_pass, then_some-none, mapped_none, none_below}
+use Rattle.tables.proofs.Passing.{clash, all_pass, then_some-none, option_map-none, none_below}
 use Rattle.questions.specs.declared.fault.WriteFault.TheVariants.{Variables, TooShort, Code}
 use Rattle.questions.specs.declared.form.Form.TheVariants.{TwoRows, OneRow}
 use Rattle.questions.specs.declared.layout.Layout.{Layout}
@@ -38,7 +38,7 @@ passed_returns n codes room e =
     let passed = all_pass (write_checks n codes room) e in
     let bounds = passed_bounds n codes room e in
     let long = ltb-false (length codes) (2 ^ n) (or_parts _ _ (then_some-none _ TooShort passed.1.0)).0 in
-    let right = none_below (wrong_at codes) (2 ^ n) (mapped_none Code (lowest (2 ^ n) (wrong_at codes)) passed.1.1.0) in
+    let right = none_below (wrong_at codes) (2 ^ n) (option_map-none Code (lowest (2 ^ n) (wrong_at codes)) passed.1.1.0) in
     entry_returns n (form_for n codes) codes bounds.0 bounds.1 long (λ i l. ltb-false 2 (get_or codes i 0) (right i l)) (nothing_free n codes)
 
 -- how long an entry is

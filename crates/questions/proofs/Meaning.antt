@@ -6,7 +6,7 @@ use Rattle.std.proofs.lemmas.Bool.{ltb-false}
 use Rattle.std.proofs.lemmas.Bool.Decides.{nat_tests}
 use Rattle.tables.specs.Tables.{Allows}
 use Rattle.tables.specs.Checks.{first, lowest}
-use Rattle.tables.proofs.Passing.{all_pass, mapped_none, none_below}
+use Rattle.tables.proofs.Passing.{all_pass, option_map-none, none_below}
 use Rattle.questions.specs.declared.form.Form.{Form}
 use Rattle.questions.specs.declared.layout.Layout.{Layout}
 use Rattle.questions.specs.declared.fault.EntryFault.TheVariants.{LowerAboveUpper}
@@ -46,7 +46,7 @@ pub none_above : (n : ℕ) (form : Form) (bytes : List ℕ) (room : ℕ) → fir
     → (i : ℕ) → i < 2 ^ n → above_at n form bytes i ≡ false
 none_above n form bytes room e =
     let passed = all_pass (entry_checks n form bytes room) e in
-    none_below (above_at n form bytes) (2 ^ n) (mapped_none LowerAboveUpper (lowest (2 ^ n) (above_at n form bytes)) passed.1.1.1.1.0)
+    none_below (above_at n form bytes) (2 ^ n) (option_map-none LowerAboveUpper (lowest (2 ^ n) (above_at n form bytes)) passed.1.1.1.1.0)
 
 -- the row after an accepted entry
 pub table-codes : (n : ℕ) (form : Form) (bytes rest : List ℕ) (i : ℕ) → i < 2 ^ n → get_or (table n form bytes ++ rest) i 0 ≡ code n form bytes i

@@ -31,9 +31,9 @@ then_some-none true r e = clash (cc)
 then_some-none false r e = refl
 
 -- a check with a spot that does not refuse
-pub mapped_none : {X F : Type 0} (f : X → F) (o : Option X) → option_map f o ≡ None → o ≡ None
-mapped_none f (Some x) e = clash (cc)
-mapped_none f None e = refl
+pub option_map-none : {X F : Type 0} (f : X → F) (o : Option X) → option_map f o ≡ None → o ≡ None
+option_map-none f (Some x) e = clash (cc)
+option_map-none f None e = refl
 
 -- an answer that is no refusal
 pub answered_ok : {X F : Type 0} (o : Option F) (x y : X) → answered o x ≡ Ok y → (o ≡ None) × (x ≡ y)

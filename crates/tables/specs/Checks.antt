@@ -1,5 +1,5 @@
 -- Orders of checks: a call makes each of its checks over the whole input before the next begins.
--- A check is an optional refusal: none where it passes. One without a spot is `whenTrue test refusal`.
+-- A check is an optional refusal: none where it passes. One without a spot is `then_some test refusal`.
 use Rattle.std.specs.Prelude.{ℕ, zero, suc, Bool, List, [], ◌∷◌, Some, None, Ok, Err, Option, Result}
 use Rattle.std.specs.Option.{option_or}
 use Rattle.std.specs.Bool.{then_some}

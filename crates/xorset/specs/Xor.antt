@@ -1,5 +1,5 @@
 -- The rule of XOR: the classes of linked cells are joined one link after another.
-use Rattle.std.specs.Prelude.{◌≡◌, ℕ, zero, suc, ◌^◌, Bool, true, false, cond, ◌||◌, ltb, List, ◌==◌, nat_lt}
+use Rattle.std.specs.Prelude.{◌≡◌, ℕ, zero, suc, ◌^◌, Bool, true, false, cond, ◌||◌, List, ◌==◌, nat_lt}
 use Rattle.tables.specs.Gates.{gate_of}
 use Rattle.tables.specs.Groups.{within}
 use Rattle.gatesets.specs.declared.request.Request.{Request}
@@ -56,7 +56,7 @@ xor_value n t l r c = ((links n t l r (2 ^ n)).label c).odd
 
 -- the cell of i, cleared of the group g, has a link
 abbrev pub linked : ℕ → (ℕ → ℕ) → ℕ → ℕ → Bool
-linked n t g i = within (2 ^ n) g (λ j. ltb (t j) 2) i
+linked n t g i = within (2 ^ n) g (λ j. nat_lt (t j) 2) i
 
 -- the code that a cell gives: its value, or free where it has no link
 abbrev pub value_code : Bool → Bool → ℕ

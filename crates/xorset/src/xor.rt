@@ -1,4 +1,4 @@
-ghost use Rattle.std.specs.Prelude.{◌≡◌, ◌+◌, ◌*◌, ◌^◌, ◌<◌, ◌≤◌, true, false, [], length, get_or, slice_index_or};
+ghost use Rattle.std.specs.Prelude.{◌≡◌, ◌+◌, ◌*◌, ◌^◌, ◌<◌, ◌≤◌, true, false, [], length, slice_index_or};
 ghost use Rattle.tables.specs.Stacks.{held};
 ghost use Rattle.gatesets.specs.Rules.{codes, no_pair, only_gate, two_parts};
 ghost use Rattle.gatesets.specs.Splits.{code};
@@ -318,8 +318,8 @@ fn write_parts(
     requires variables { variables ≤ 10 }
     requires rows { (length values.now ≡ 2 * 2 ^ variables) × ((length left_row.old ≡ 2 ^ variables) × (length right_row.old ≡ 2 ^ variables)) }
     requires codes { Coded variables left right values.now }
-    ensures left { left_row.new ≡ codes variables (λ i. get_or values.now (left_cell right i) 2) }
-    ensures right { right_row.new ≡ codes variables (λ i. get_or values.now (right_cell variables left i) 2) }
+    ensures left { left_row.new ≡ codes variables (λ i. slice_index_or values.now (left_cell right i) 2) }
+    ensures right { right_row.new ≡ codes variables (λ i. slice_index_or values.now (right_cell variables left i) 2) }
 {
     let frame = Frame {
         variables,
