@@ -494,7 +494,7 @@ zerosLaid zeros_laid
 
 RENAMED = dict(line.split() for line in NAMES.strip().split("\n"))
 WORD = re.compile(r"[^\s(){}\[\];,.|\"\u03bb\u2237:]+")
-STRING = re.compile(r'("(?:[^"\\\\]|\\\\.)*")')
+STRING = re.compile(r'("(?:[^"\\]|\\.)*")')
 
 
 def respelled(text):
