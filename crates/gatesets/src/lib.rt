@@ -15,5 +15,5 @@ pub use gateset::GateSet;
 pub use left_inverted::LeftInverted;
 pub use opposite::Opposite;
 pub use pair::PairOf;
-pub use refusal::SplitRefusal;
+pub use refusal::{NoPair, SplitRefusal};
 pub use request::Request;

@@ -1,4 +1,6 @@
+ghost use Rattle.std.specs.Prelude.{◌≡◌};
 ghost use Rattle.gatesets.specs.Refusals.{split_number, split_spot};
+ghost use Rattle.gatesets.specs.declared.refusal.SplitRefusal.TheVariants.{NoPair};
 
 use tables::Refusal;
 
@@ -40,5 +42,17 @@ impl Refusal for SplitRefusal {
             SplitRefusal::Code { index } => *index,
             _ => 0,
         }
+    }
+}
+
+// No pair of functions joined by the gate is admitted.
+#[derive(Clone, Copy, PartialEq, Eq, Debug)]
+pub struct NoPair;
+
+impl From<NoPair> for SplitRefusal {
+    ghost from_gives = { λ _ r. r ≡ NoPair };
+
+    fn from(_none: NoPair) -> SplitRefusal {
+        SplitRefusal::NoPair
     }
 }
