@@ -6,3 +6,4 @@ pub mod Transfers
 pub mod Opposites
 pub mod Inversions
 pub mod Numberings
+pub mod Checking

@@ -1,5 +1,5 @@
 -- Sets of gates derived from any set below: the opposite set, the left-inverted set, and the pair of two sets.
-use Rattle.std.specs.Prelude.{ℕ, ◌+◌, ◌-◌, ◌<◌, ◌≤◌, min, Bool, cond, not, ◌⊎◌, List, ◌++◌, map, take, drop, nat_lt}
+use Rattle.std.specs.Prelude.{ℕ, ◌+◌, ◌-◌, ◌<◌, ◌≤◌, min, Bool, if◌then◌else◌, not, ◌⊎◌, List, ◌++◌, map, take, drop, nat_lt}
 use Rattle.tables.specs.Gates.{complement, gate_of, joined, no_answers}
 use Rattle.gatesets.specs.Splits.{Giving}
 use Rattle.gatesets.specs.declared.request.Request.{Request}
@@ -10,7 +10,7 @@ opposed gate = gate_of (λ a b. not (joined gate (not a) (not b)))
 
 -- the gates of the opposite of a set of so many gates
 abbrev pub opposite_answering : ℕ → (ℕ → List Bool) → ℕ → List Bool
-opposite_answering count answering k = cond (nat_lt k count) (opposed (answering k)) no_answers
+opposite_answering count answering k = if nat_lt k count then opposed (answering k) else no_answers
 
 -- its parts are the complements of those that the set below may give for the complemented table
 abbrev pub OppositeGives : Giving → Giving
@@ -29,7 +29,8 @@ abbrev pub pair_count : ℕ → ℕ → ℕ
 pair_count first second = min 16 (first + second)
 
 abbrev pub pair_answering : ℕ → (ℕ → List Bool) → (ℕ → List Bool) → ℕ → List Bool
-pair_answering first answering answering' k = cond (nat_lt k first) (answering k) (cond (nat_lt k 16) (answering' (k - first)) no_answers)
+pair_answering first answering answering' k =
+    if nat_lt k first then answering k else (if nat_lt k 16 then answering' (k - first) else no_answers)
 
 -- the same request for another gate number
 abbrev pub renumbered : ℕ → Request → Request

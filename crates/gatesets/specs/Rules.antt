@@ -1,5 +1,5 @@
 -- Rules that fix the parts of a split.
-use Rattle.std.specs.Prelude.{ℕ, ◌^◌, Bool, true, false, cond, List, map, ◌==◌}
+use Rattle.std.specs.Prelude.{ℕ, ◌^◌, Bool, true, false, if◌then◌else◌, List, map, ◌==◌}
 use Rattle.std.specs.List.{range_with_len}
 use Rattle.tables.specs.Gates.{complement, no_answers}
 use Rattle.gatesets.specs.declared.request.Request.{Request}
@@ -24,7 +24,7 @@ ruled false left right = two_parts left right
 
 -- the answers of a set whose only gate, number 0, is this one
 abbrev pub only_gate : List Bool → ℕ → List Bool
-only_gate gate k = cond (k == 0) gate no_answers
+only_gate gate k = if k == 0 then gate else no_answers
 
 abbrev pub both_complemented : Ruling → Ruling
 both_complemented no_pair = no_pair

@@ -1,23 +1,19 @@
-ghost use Rattle.std.specs.Prelude.{◌≡◌, ◌≤◌, length, nat_lt};
-ghost use Rattle.tables.specs.Checks.{lowest};
+ghost use Rattle.std.specs.Prelude.{◌≡◌, ◌^◌, ◌≤◌, position, nat_lt};
+ghost use Rattle.tables.specs.Checks.{answered};
 ghost use Rattle.tables.specs.Groups.{lawful_groups};
-ghost use Rattle.gatesets.specs.Splits.{code, early, rows};
+ghost use Rattle.gatesets.specs.Lent.{rows_of};
+ghost use Rattle.gatesets.specs.Splits.{early};
 
 use super::refusal::SplitRefusal;
 use super::request::Request;
+use super::rows::LentRows;
 use tables::points;
 
-// The lowest index of a code above 2 in the first `points` codes.
-fn wrong_code(row: &[u8], points: usize) -> Option<usize>
-    requires { points ≤ length row.now }
-    ensures { result ≡ lowest points (λ i. nat_lt 2 (code row.now i)) }
+// The lowest index of a code above 2.
+fn wrong_code(table: &[u8]) -> Option<usize>
+    ensures { result ≡ position (λ c. nat_lt 2 c) table.now }
 {
-    for index in 0..points {
-        if row[index] > 2 {
-            return Some(index);
-        }
-    }
-    None
+    table.iter().position(|code| *code > 2)
 }
 
 // Whether two groups are non-empty, disjoint and inside the variables of a table.
@@ -29,33 +25,24 @@ fn are_lawful(variables: u8, left: u16, right: u16) -> bool
     0 < left && 0 < right && left & right == 0 && left < points && right < points
 }
 
-// Makes every check of a split but the last, in their order, for a set of so many gates.
-pub fn check_split(
-    count: u8,
-    ask: Request,
-    table: &[u8],
-    left: &[u8],
-    right: &[u8],
-    first: &[u16],
-    second: &[u16],
-) -> Option<SplitRefusal>
-    ensures { result ≡ early count ask (rows table.now left.now right.now first.now second.now) }
+// Makes every check of a split but the last, in their order, for a set of so many gates, and answers how many assignments the table has.
+pub fn check_split(count: u8, ask: Request, rows: &LentRows<'_>) -> Result<usize, SplitRefusal>
+    ensures { result ≡ answered (early count ask (rows_of rows.now)) (2 ^ ask.variables) }
 {
-    let Some(points) = points(ask.variables) else {
-        return Some(SplitRefusal::Variables);
-    };
-    let parts_fit = points <= table.len() && points <= left.len() && points <= right.len();
-    if !(parts_fit && 2 * points <= first.len() && 2 * points <= second.len()) {
-        return Some(SplitRefusal::TooShort);
+    let points = points(ask.variables).ok_or(SplitRefusal::Variables)?;
+    let codes = rows.table.len().min(rows.left.len()).min(rows.right.len());
+    let numbers = rows.first.len().min(rows.second.len());
+    if codes < points || numbers < 2 * points {
+        return Err(SplitRefusal::TooShort);
     }
-    if let Some(index) = wrong_code(table, points) {
-        return Some(SplitRefusal::Code { index });
+    if let Some(index) = wrong_code(&rows.table[0..points]) {
+        return Err(SplitRefusal::Code { index });
     }
     if ask.gate >= count {
-        return Some(SplitRefusal::Gate);
+        return Err(SplitRefusal::Gate);
     }
     if !are_lawful(ask.variables, ask.left, ask.right) {
-        return Some(SplitRefusal::Groups);
+        return Err(SplitRefusal::Groups);
     }
-    None
+    Ok(points)
 }

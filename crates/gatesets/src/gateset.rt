@@ -1,10 +1,12 @@
 ghost use Rattle.std.specs.Prelude.{◌≡◌, ℕ, ◌≤◌, Bool, List, length};
 ghost use Rattle.tables.specs.Gates.{no_answers};
-ghost use Rattle.gatesets.specs.Splits.{Split, rows};
+ghost use Rattle.gatesets.specs.Lent.{SameRows, rows_of};
+ghost use Rattle.gatesets.specs.Splits.{Split};
 ghost use Rattle.gatesets.specs.declared.request.Request.{Request};
 
 use super::refusal::SplitRefusal;
 use super::request::Request;
+use super::rows::LentRows;
 
 // A set of gates, numbered from 0: how many it has, the four answers of each, and which parts it may give.
 pub trait GateSet {
@@ -25,17 +27,10 @@ pub trait GateSet {
         ensures { result ≡ answering self.now gate };
 
     // Splits the table at the front of its row into two parts that the gate joins. The table comes back as it was; the two work rows are open.
-    fn split(
-        &self,
-        ask: Request,
-        table: &mut [u8],
-        left: &mut [u8],
-        right: &mut [u8],
-        first: &mut [u16],
-        second: &mut [u16],
-    ) -> Result<(), SplitRefusal>
-        ensures table_kept { table.new ≡ table.old }
-        ensures outcome { Split (counted self.now) (answering self.now ask.gate) (gives self.now) ask (rows table.old left.old right.old first.old second.old) left.new right.new result };
+    fn split(&self, ask: Request, rows: &mut LentRows<'_>) -> Result<(), SplitRefusal>
+        ensures same_rows { SameRows rows.old rows.new }
+        ensures table_kept { rows.new.table.now ≡ rows.old.table.now }
+        ensures outcome { Split (counted self.now) (answering self.now ask.gate) (gives self.now) ask (rows_of rows.old) rows.new.left.now rows.new.right.now result };
 
     ghost sixteen: { (s : Self) → (1 ≤ counted s) × (counted s ≤ 16) };
 

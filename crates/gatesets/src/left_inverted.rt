@@ -5,6 +5,7 @@ use super::complement::complement_table;
 use super::gateset::GateSet;
 use super::refusal::SplitRefusal;
 use super::request::Request;
+use super::rows::LentRows;
 
 // The left-inverted set: each gate answers what the gate below answers where its first input is complemented.
 #[derive(Clone, Copy)]
@@ -33,17 +34,9 @@ impl<S: GateSet> GateSet for LeftInverted<S> {
     }
 
     // The set below splits the table; its left part is complemented.
-    fn split(
-        &self,
-        ask: Request,
-        table: &mut [u8],
-        left: &mut [u8],
-        right: &mut [u8],
-        first: &mut [u16],
-        second: &mut [u16],
-    ) -> Result<(), SplitRefusal> {
-        self.0.split(ask, table, left, right, first, second)?;
-        complement_table(left, ask.variables);
+    fn split(&self, ask: Request, rows: &mut LentRows<'_>) -> Result<(), SplitRefusal> {
+        self.0.split(ask, rows)?;
+        complement_table(rows.left, ask.variables);
         Ok(())
     }
 }

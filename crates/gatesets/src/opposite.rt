@@ -5,6 +5,7 @@ use super::complement::complement_table;
 use super::gateset::GateSet;
 use super::refusal::SplitRefusal;
 use super::request::Request;
+use super::rows::LentRows;
 
 // The opposite of a set: each gate answers the complement of what the gate below answers on complemented inputs.
 #[derive(Clone, Copy)]
@@ -37,21 +38,13 @@ impl<S: GateSet> GateSet for Opposite<S> {
     }
 
     // The set below splits the complemented table; its parts are complemented.
-    fn split(
-        &self,
-        ask: Request,
-        table: &mut [u8],
-        left: &mut [u8],
-        right: &mut [u8],
-        first: &mut [u16],
-        second: &mut [u16],
-    ) -> Result<(), SplitRefusal> {
-        complement_table(table, ask.variables);
-        let done = self.0.split(ask, table, left, right, first, second);
-        complement_table(table, ask.variables);
+    fn split(&self, ask: Request, rows: &mut LentRows<'_>) -> Result<(), SplitRefusal> {
+        complement_table(rows.table, ask.variables);
+        let done = self.0.split(ask, rows);
+        complement_table(rows.table, ask.variables);
         done?;
-        complement_table(left, ask.variables);
-        complement_table(right, ask.variables);
+        complement_table(rows.left, ask.variables);
+        complement_table(rows.right, ask.variables);
         Ok(())
     }
 }

@@ -4,6 +4,7 @@ ghost use Rattle.std.proofs.Common.{rules};
 use super::gateset::GateSet;
 use super::refusal::SplitRefusal;
 use super::request::Request;
+use super::rows::LentRows;
 
 // A pair of sets: the gates of the first, then those of the second, sixteen at most.
 #[derive(Clone, Copy)]
@@ -38,24 +39,16 @@ impl<F: GateSet, S: GateSet> GateSet for PairOf<F, S> {
     }
 
     // The set to which the gate belongs splits the table; a gate number that is none of the pair's is none of the first set's, which refuses it.
-    fn split(
-        &self,
-        ask: Request,
-        table: &mut [u8],
-        left: &mut [u8],
-        right: &mut [u8],
-        first: &mut [u16],
-        second: &mut [u16],
-    ) -> Result<(), SplitRefusal> {
+    fn split(&self, ask: Request, rows: &mut LentRows<'_>) -> Result<(), SplitRefusal> {
         let count = self.0.count();
         if ask.gate < count || ask.gate >= 16 {
-            self.0.split(ask, table, left, right, first, second)
+            self.0.split(ask, rows)
         } else {
             let ask = Request {
                 gate: ask.gate - count,
                 ..ask
             };
-            self.1.split(ask, table, left, right, first, second)
+            self.1.split(ask, rows)
         }
     }
 }

@@ -52,7 +52,7 @@ pub struct NoPair;
 impl From<NoPair> for SplitRefusal {
     ghost from_gives = { λ _ r. r ≡ NoPair };
 
-    fn from(_none: NoPair) -> SplitRefusal {
-        SplitRefusal::NoPair
+    fn from(_none: NoPair) -> Self {
+        Self::NoPair
     }
 }

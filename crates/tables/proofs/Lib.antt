@@ -1,4 +1,5 @@
 pub mod Passing
+pub mod Positions
 pub mod Sizes
 pub mod Parts
 pub mod Fills

@@ -1,10 +1,10 @@
 -- Gates of two inputs, and complements.
 -- A gate is its four answers, for the input pairs (0,0), (0,1), (1,0), (1,1).
-use Rattle.std.specs.Prelude.{ℕ, zero, suc, ◌+◌, ◌*◌, ◌^◌, Bool, true, false, cond, List, [], ◌∷◌, slice_index_or}
+use Rattle.std.specs.Prelude.{ℕ, zero, suc, ◌+◌, ◌*◌, ◌^◌, Bool, true, false, if◌then◌else◌, List, [], ◌∷◌, slice_index_or}
 
 -- a truth value as a number
 abbrev pub bit : Bool → ℕ
-bit b = cond b 1 0
+bit b = if b then 1 else 0
 
 -- what a gate answers for the inputs a and b
 abbrev pub joined : List Bool → Bool → Bool → Bool
@@ -20,7 +20,7 @@ no_answers = gate_of (λ _ _. false)
 
 -- what the input pair (a, b) adds to the gate code: 2 ^ (2 a + b) where it is answered 1
 abbrev pub weight : List Bool → Bool → Bool → ℕ
-weight gate a b = cond (joined gate a b) (2 ^ (2 * bit a + bit b)) 0
+weight gate a b = if joined gate a b then 2 ^ (2 * bit a + bit b) else 0
 
 -- the gate code
 abbrev pub gate_code : List Bool → ℕ

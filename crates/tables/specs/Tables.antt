@@ -1,7 +1,7 @@
 -- Assignments, codes, and the functions that a table admits.
 -- An assignment is a number below 2 ^ n, and variable k has in it the value of the digit of weight 2 ^ k.
 -- A table of n variables is a row of 2 ^ n codes, one for each assignment.
-use Rattle.std.specs.Prelude.{◌≡◌, ℕ, ◌/◌, ◌%◌, ◌^◌, ◌<◌, Bool, true, false, cond, ◌&&◌, List, Some, None, count_by, Option, nat_eq, nat_le, slice_index}
+use Rattle.std.specs.Prelude.{◌≡◌, ℕ, ◌/◌, ◌%◌, ◌^◌, ◌<◌, Bool, true, false, if◌then◌else◌, ◌&&◌, List, Some, None, count_by, Option, nat_eq, nat_le, slice_index}
 use Rattle.tables.specs.declared.counts.Counts.{Counts}
 
 -- the digit of weight 2 ^ k in the number i
@@ -14,7 +14,7 @@ lawful_size n = nat_le 1 n && nat_le n 10
 
 -- the number of assignments of n variables, where a table may have so many
 abbrev pub sized : ℕ → Option ℕ
-sized n = cond (lawful_size n) (Some (2 ^ n)) None
+sized n = if lawful_size n then Some (2 ^ n) else None
 
 -- the code c allows the value v: 0 must be 0, 1 must be 1, 2 is free
 abbrev pub Allows : ℕ → Bool → Type 0

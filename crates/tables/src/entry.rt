@@ -1,9 +1,9 @@
-ghost use Rattle.std.specs.Prelude.{◌≡◌, Bool, Decides};
+ghost use Rattle.std.specs.Prelude.{◌≡◌, ◌↔◌, IsTrue};
 ghost use Rattle.std.proofs.Common.{rules};
 
-// The entries of a row: `==` decides whether two of them are equal.
+// The entries of a row: `==` tells exactly whether two of them are the same.
 pub trait Entry: PartialEq {
-    ghost decides: { (x y : Self) (r : Bool) → (r ≡ Self.PartialEq.eq x y) → Decides r (x ≡ y) };
+    ghost decides: { (x y : Self) → IsTrue (Self.PartialEq.eq x y) ↔ (x ≡ y) };
 }
 
 impl Entry for u8 {

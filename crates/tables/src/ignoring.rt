@@ -1,4 +1,4 @@
-ghost use Rattle.std.specs.Prelude.{◌≡◌, ℕ, ◌<◌, ◌≤◌, length, Some, None, Decides, MatchResult};
+ghost use Rattle.std.specs.Prelude.{◌≡◌, ℕ, ◌<◌, ◌↔◌, length, Some, None, IsTrue, MatchResult};
 ghost use Rattle.std.specs.List.{slice_get};
 ghost use Rattle.tables.specs.Checks.{first};
 ghost use Rattle.tables.specs.Groups.{Ignores, clear};
@@ -41,26 +41,22 @@ impl Refusal for IgnoreRefusal {
 pub fn ignores<T: Entry>(row: &[T], variables: u8, group: u16) -> Result<bool, IgnoreRefusal>
     ensures { MatchResult result
         (λ ignored. (first (ignore_checks variables (length row.now)) ≡ None)
-        × Decides ignored (Ignores variables group (slice_get row.now)))
+        × (IsTrue ignored ↔ Ignores variables group (slice_get row.now)))
         (λ refusal. first (ignore_checks variables (length row.now)) ≡ Some refusal) }
 {
-    let Some(points) = points(variables) else {
-        return Err(IgnoreRefusal::Size);
-    };
+    let points = points(variables).ok_or(IgnoreRefusal::Size)?;
     if row.len() < points {
         return Err(IgnoreRefusal::Short);
     }
-    Ok(cleared_alike(row, points, group))
+    Ok(cleared_alike(&row[0..points], group))
 }
 
-// Whether each of so many entries is equal to the one at its assignment cleared of the group.
-fn cleared_alike<T: Entry>(row: &[T], points: usize, group: u16) -> bool
-    requires { points ≤ length row.now }
-    ensures { Decides result ((i : ℕ) → i < points → slice_get row.now i ≡ slice_get row.now (clear group i)) }
+// Whether each entry is equal to the one at its assignment cleared of the group.
+fn cleared_alike<T: Entry>(row: &[T], group: u16) -> bool
+    ensures { IsTrue result ↔ ((i : ℕ) → i < length row.now → slice_get row.now i ≡ slice_get row.now (clear group i)) }
 {
-    for i in 0..points {
-        let cleared = clear_group(group, i);
-        if row[i] != row[cleared] {
+    for (index, entry) in row.iter().enumerate() {
+        if *entry != row[clear_group(group, index)] {
             return false;
         }
     }

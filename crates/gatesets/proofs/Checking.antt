@@ -1,0 +1,44 @@
+-- What the early checks say where the size and the rooms are known.
+use Rattle.std.proofs.Common.{◌≡◌, ℕ, ◌-◌, ◌*◌, ◌^◌, ◌≤◌, min, Bool, true, not, ltb, leb, [], ◌∷◌, length, take, Some, Option, sym, refl, ap, ◌∙◌, arith}
+use native.Mathlib.Nat.{sub-zero}
+use Rattle.std.specs.List.{position}
+use Rattle.std.specs.Option.{option_map}
+use Rattle.std.specs.Bool.{then_some}
+use Rattle.std.proofs.lemmas.Bool.{le-leb}
+use Rattle.tables.specs.Checks.{first, lowest}
+use Rattle.tables.specs.Groups.{lawful_groups}
+use Rattle.tables.specs.Tables.{lawful_size, sized}
+use Rattle.tables.proofs.Positions.{position-lowest}
+use Rattle.tables.proofs.Sizes.{sized-some}
+use Rattle.gatesets.specs.declared.refusal.SplitRefusal.TheVariants.{Code, Gate, Groups}
+use Rattle.gatesets.specs.declared.request.Request.{Request}
+use Rattle.gatesets.specs.Splits.{Rows, code, early, roomy}
+
+module _ (count : ℕ) (ask : Request) (lent : Rows) (points : ℕ) (known : Some points ≡ sized ask.variables)
+    (codes : points ≤ min (min (length lent.table) (length lent.left)) (length lent.right)) (numbers : 2 * points ≤ min (length lent.first) (length lent.second)) where
+  -- the size is lawful, and known
+  pub size : (lawful_size ask.variables ≡ true) × (points ≡ 2 ^ ask.variables)
+  size = sized-some ask.variables points known
+
+  -- every row is long enough
+  room : roomy ask.variables lent ≡ true
+  room =
+      let same = size.1 in
+      rw (
+        le-leb (2 ^ ask.variables) (length lent.table) (omega arith),
+        le-leb (2 ^ ask.variables) (length lent.left) (omega arith),
+        le-leb (2 ^ ask.variables) (length lent.right) (omega arith),
+        le-leb (2 * 2 ^ ask.variables) (length lent.first) (omega arith),
+        le-leb (2 * 2 ^ ask.variables) (length lent.second) (omega arith),
+      ) refl
+
+  -- so the last three checks are left
+  pub early_late : (wrong : Option ℕ) (numbered lawful : Bool) → wrong ≡ position (λ c. ltb 2 c) (take (points - 0) lent.table)
+      → leb count ask.gate ≡ numbered → lawful_groups ask.variables ask.left ask.right ≡ lawful
+      → early count ask lent ≡ first (option_map Code wrong ∷ then_some numbered Gate ∷ then_some (not lawful) Groups ∷ [])
+  early_late wrong numbered lawful found number groups =
+      let same = size.1 in
+      let front : points - 0 ≡ 2 ^ ask.variables = sub-zero points ∙ same in
+      let lowest_is : lowest (2 ^ ask.variables) (λ i. ltb 2 (code lent.table i)) ≡ wrong =
+      sym (found ∙ ap (λ k. position (λ c. ltb 2 c) (take k lent.table)) front ∙ position-lowest (λ c. ltb 2 c) lent.table (2 ^ ask.variables) (omega arith)) in
+      rw (size.0, room, lowest_is, number, groups) refl
