@@ -1,10 +1,11 @@
 -- How the split of a base set ended, by what it did with the fronts of the part rows.
-use Rattle.std.proofs.Common.{◌≡◌, ℕ, ◌-◌, ◌^◌, ◌<◌, Bool, cond, List, ◌++◌, take, drop, Some, None, Ok, Err, sym, refl, ap, ◌∙◌, subst, inr, arith, take-append-drop}
+use Rattle.std.proofs.Common.{◌≡◌, ℕ, ◌-◌, ◌*◌, ◌^◌, ◌<◌, Bool, cond, List, ◌++◌, length, take, drop, Some, None, Ok, Err, sym, refl, ap, ◌∙◌, subst, inr, arith, take-append-drop}
 use native.Mathlib.Nat.{sub-zero}
+use Rattle.std.proofs.lemmas.List.{length-take-le}
 use Rattle.std.proofs.lemmas.Bool.{eq-eqb}
 use Rattle.tables.specs.Gates.{no_answers}
-use Rattle.tables.specs.Tables.{sized}
-use Rattle.tables.proofs.Sizes.{sized-some}
+use Rattle.tables.specs.Checks.{answered}
+use Rattle.tables.proofs.Passing.{answered_ok}
 use Rattle.gatesets.specs.declared.refusal.SplitRefusal.TheVariants.{NoPair}
 use Rattle.gatesets.specs.declared.request.Request.{Request}
 use Rattle.gatesets.specs.Splits.{Giving, Pair, Parts, Rows, Split, early, table_in}
@@ -15,10 +16,28 @@ use Rattle.gatesets.proofs.Outcomes.{parted_by, passed_facts}
 only_gate_lem : (gate : List Bool) (k : ℕ) → k < 1 → only_gate gate k ≡ gate
 only_gate_lem gate k below = ap (λ b. cond b gate no_answers) (eq-eqb k 0 (omega arith))
 
-module _ (gate : List Bool) (gives : Giving) (ask : Request) (lent : Rows) (points : ℕ) (size : Some points ≡ sized ask.variables) (passed : early 1 ask lent ≡ None) where
+module _ (gate : List Bool) (gives : Giving) (ask : Request) (lent : Rows) (points : ℕ) (checked : Ok points ≡ answered (early 1 ask lent) (2 ^ ask.variables)) where
+  -- no check refuses
+  passed : early 1 ask lent ≡ None
+  passed = (answered_ok (early 1 ask lent) (2 ^ ask.variables) points (sym checked)).0
+
   -- the front of a row is as long as the table
   front : points - 0 ≡ 2 ^ ask.variables
-  front = sub-zero points ∙ (sized-some ask.variables points size).1
+  front = sub-zero points ∙ sym (answered_ok (early 1 ask lent) (2 ^ ask.variables) points (sym checked)).1
+
+  -- so are the fronts of the table's row and of the part rows
+  pub codes_long : (length (take (points - 0) lent.table) ≡ 2 ^ ask.variables)
+      × ((length (take (points - 0) lent.left) ≡ 2 ^ ask.variables) × (length (take (points - 0) lent.right) ≡ 2 ^ ask.variables))
+  codes_long =
+      let room = passed_facts 1 ask lent passed in
+      rw front (length-take-le _ _ room.table_room, (length-take-le _ _ room.left_room, length-take-le _ _ room.right_room))
+
+  -- and those of the work rows twice as long
+  pub numbers_long : (length (take (2 * points - 0) lent.first) ≡ 2 * 2 ^ ask.variables) × (length (take (2 * points - 0) lent.second) ≡ 2 * 2 ^ ask.variables)
+  numbers_long =
+      let room = passed_facts 1 ask lent passed in
+      let twice : 2 * points - 0 ≡ 2 * 2 ^ ask.variables = sub-zero (2 * points) ∙ ap (λ k. 2 * k) (sym (sub-zero points) ∙ front) in
+      rw twice (length-take-le _ _ room.first_room, length-take-le _ _ room.second_room)
 
   -- the gate that is asked for
   asked : only_gate gate ask.gate ≡ gate

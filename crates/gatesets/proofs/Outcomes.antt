@@ -1,5 +1,5 @@
 -- How a split is shown by how it ended, and what is known where the early checks pass.
-use Rattle.std.proofs.Common.{◌≡◌, ℕ, ◌^◌, ◌<◌, ◌≤◌, Bool, true, not, eqb, List, length, None, Ok, ap}
+use Rattle.std.proofs.Common.{◌≡◌, ℕ, ◌*◌, ◌^◌, ◌<◌, ◌≤◌, Bool, true, not, eqb, List, length, None, Ok, ap}
 use Rattle.std.specs.Bool.{then_some}
 use Rattle.std.proofs.lemmas.Bool.{and_parts, leb-false, leb-true, not-false}
 use Rattle.tables.specs.Tables.{Allows, lawful_size}
@@ -28,6 +28,10 @@ parts_pair gate ask table left right p =
 pub record Passed (count : ℕ) (ask : Request) (lent : Rows) : Type 0 where
   pub size_lawful : lawful_size ask.variables ≡ true
   pub table_room : 2 ^ ask.variables ≤ length lent.table
+  pub left_room : 2 ^ ask.variables ≤ length lent.left
+  pub right_room : 2 ^ ask.variables ≤ length lent.right
+  pub first_room : 2 * 2 ^ ask.variables ≤ length lent.first
+  pub second_room : 2 * 2 ^ ask.variables ≤ length lent.second
   pub gate_below : ask.gate < count
 
 -- a test whose failure would refuse has not failed
@@ -39,9 +43,17 @@ module _ (count : ℕ) (ask : Request) (lent : Rows) where
   pub passed_facts : early count ask lent ≡ None → Passed count ask lent
   passed_facts e =
       let each = all_pass (checks count ask lent) e in
+      let table_and = and_parts _ _ (not_refused _ TooShort each.1.0) in
+      let left_and = and_parts _ _ table_and.1 in
+      let right_and = and_parts _ _ left_and.1 in
+      let work = and_parts _ _ right_and.1 in
       record {
         size_lawful = not_refused (lawful_size ask.variables) Variables each.0;
-        table_room = leb-true _ _ (and_parts _ _ (not_refused _ TooShort each.1.0)).0;
+        table_room = leb-true _ _ table_and.0;
+        left_room = leb-true _ _ left_and.0;
+        right_room = leb-true _ _ right_and.0;
+        first_room = leb-true _ _ work.0;
+        second_room = leb-true _ _ work.1;
         gate_below = leb-false _ _ (then_some-none _ Gate each.1.1.1.0);
       }
 

@@ -7,7 +7,7 @@ ghost use Rattle.xorset.specs.Search.{waiting, cell_of, Followed, Fits, IsCell, 
 ghost use Rattle.xorset.specs.Xor.{XorGives, xor_gate, xor_rule};
 ghost use Rattle.std.proofs.Common.{rules};
 
-use gatesets::{GateSet, Request, SplitRefusal, check_split};
+use gatesets::{GateSet, LentRows, Request, SplitRefusal, check_split, only_gate};
 use tables::{Stack, clear_group, points};
 
 // How many gates the set has.
@@ -35,35 +35,20 @@ impl GateSet for Xor {
     }
 
     fn answers(&self, gate: u8) -> [bool; 4] {
-        match gate {
-            0 => [false, true, true, false],
-            _ => [false; 4],
-        }
+        only_gate([false, true, true, false], gate)
     }
 
     // The first work row takes the values of the cells, the second the cells to visit.
-    fn split(
-        &self,
-        ask: Request,
-        table: &mut [u8],
-        left: &mut [u8],
-        right: &mut [u8],
-        first: &mut [u16],
-        second: &mut [u16],
-    ) -> Result<(), SplitRefusal> {
-        if let Some(refusal) = check_split(COUNT, ask, table, left, right, first, second) {
-            return Err(refusal);
-        }
-        let Some(points) = points(ask.variables) else {
-            return Err(SplitRefusal::Variables);
-        };
+    fn split(&self, ask: Request, rows: &mut LentRows<'_>) -> Result<(), SplitRefusal> {
+        let points = check_split(COUNT, ask, rows)?;
+        let table = &mut rows.table[0..points];
         if split_table(
             ask,
-            &table[0..points],
-            &mut left[0..points],
-            &mut right[0..points],
-            &mut first[0..2 * points],
-            &mut second[0..2 * points],
+            table,
+            &mut rows.left[0..points],
+            &mut rows.right[0..points],
+            &mut rows.first[0..2 * points],
+            &mut rows.second[0..2 * points],
         ) {
             Ok(())
         } else {
