@@ -1,7 +1,8 @@
 // Puts questions to a set of gates, and tells whether the answers are the expected ones.
-use crate::cases::{ALONE, Answer, Case, LONGEST, LONGEST_WORK, TOGETHER};
-use gatesets::{GateSet, SplitRefusal};
-use std::io;
+use crate::cases::{ALONE, Case, LONGEST, LONGEST_WORK, TOGETHER};
+use gatesets::{GateSet, LentRows, SplitRefusal};
+use std::ops::AddAssign;
+use std::{fmt, io};
 use tables::Refusal;
 
 const FREE: u8 = 2;
@@ -10,49 +11,57 @@ const FREE: u8 = 2;
 const UNTOUCHED: u8 = 7;
 
 // How many answers were the expected ones, and after how many refusals the rows were as before.
-#[derive(Clone, Copy)]
+#[derive(Clone, Copy, Default)]
 pub struct Tally {
-    pub expected: u64,
-    pub others: u64,
-    pub refused: u64,
-    pub kept: u64,
+    expected: u64,
+    others: u64,
+    refused: u64,
+    kept: u64,
 }
 
-impl Tally {
-    pub fn new() -> Tally {
-        Tally {
-            expected: 0,
-            others: 0,
-            refused: 0,
-            kept: 0,
-        }
+impl AddAssign for Tally {
+    fn add_assign(&mut self, other: Tally) {
+        self.expected = self.expected.saturating_add(other.expected);
+        self.others = self.others.saturating_add(other.others);
+        self.refused = self.refused.saturating_add(other.refused);
+        self.kept = self.kept.saturating_add(other.kept);
     }
+}
 
-    pub fn with(self, other: Tally) -> Tally {
-        Tally {
-            expected: self.expected.saturating_add(other.expected),
-            others: self.others.saturating_add(other.others),
-            refused: self.refused.saturating_add(other.refused),
-            kept: self.kept.saturating_add(other.kept),
-        }
+impl fmt::Display for Tally {
+    fn fmt<W: fmt::Write>(&self, f: &mut fmt::Formatter<W>) -> fmt::Result {
+        let Tally {
+            expected,
+            others,
+            refused,
+            kept,
+        } = self;
+        write!(
+            f,
+            "questions answered as expected: {expected}, otherwise: {others}; refused: {refused}, of these with rows as before: {kept}"
+        )
     }
 }
 
 // What came of a question.
 #[derive(Clone, Copy)]
 struct Outcome {
-    answer: Answer,
+    answer: Result<(), SplitRefusal>,
     // Whether the table and both part rows are as before.
     kept: bool,
 }
 
-fn answer_of(res: Result<(), SplitRefusal>) -> Answer {
-    match res {
-        Ok(()) => Answer::Parts,
-        Err(refusal) => Answer::Refused {
-            number: refusal.number(),
-            spot: refusal.spot(),
-        },
+impl Outcome {
+    // The tally of this outcome alone.
+    fn tally(&self, expected: Result<(), SplitRefusal>) -> Tally {
+        let met = self.answer == expected;
+        let refused = self.answer.is_err();
+        Tally {
+            expected: met as u64,
+            others: !met as u64,
+            refused: refused as u64,
+            kept: (refused && self.kept) as u64,
+        }
     }
 }
 
@@ -73,37 +82,26 @@ fn put<S: GateSet>(set: &S, case: &Case) -> Outcome {
     let mut right = [UNTOUCHED; LONGEST];
     let mut first = [0; LONGEST_WORK];
     let mut second = [0; LONGEST_WORK];
-    let result = set.split(
-        case.ask,
-        &mut table[0..case.lengths.table.min(LONGEST)],
-        &mut left[0..case.lengths.left.min(LONGEST)],
-        &mut right[0..case.lengths.right.min(LONGEST)],
-        &mut first[0..case.lengths.first.min(LONGEST_WORK)],
-        &mut second[0..case.lengths.second.min(LONGEST_WORK)],
-    );
+    let mut rows = LentRows {
+        table: &mut table[0..case.lengths.table.min(LONGEST)],
+        left: &mut left[0..case.lengths.left.min(LONGEST)],
+        right: &mut right[0..case.lengths.right.min(LONGEST)],
+        first: &mut first[0..case.lengths.first.min(LONGEST_WORK)],
+        second: &mut second[0..case.lengths.second.min(LONGEST_WORK)],
+    };
+    let answer = set.split(case.ask, &mut rows);
     let untouched = [UNTOUCHED; LONGEST];
     Outcome {
-        answer: answer_of(result),
+        answer,
         kept: table == before && left == untouched && right == untouched,
     }
 }
 
 // Puts questions to a set, and counts.
 fn count<S: GateSet>(set: &S, cases: &[Case]) -> Tally {
-    let mut tally = Tally::new();
+    let mut tally = Tally::default();
     for case in cases {
-        let outcome = put(set, case);
-        if outcome.answer == case.expected {
-            tally.expected = tally.expected.saturating_add(1);
-        } else {
-            tally.others = tally.others.saturating_add(1);
-        }
-        if outcome.answer != Answer::Parts {
-            tally.refused = tally.refused.saturating_add(1);
-            if outcome.kept {
-                tally.kept = tally.kept.saturating_add(1);
-            }
-        }
+        tally += put(set, case).tally(case.expected);
     }
     tally
 }
@@ -113,8 +111,10 @@ fn print_answers<S: GateSet>(rt: &HostRuntime, set: &S, cases: &[Case]) -> io::R
     for case in cases {
         let name = case.name;
         match put(set, case).answer {
-            Answer::Parts => println!(rt; "{name}: parts")?,
-            Answer::Refused { number, spot } => {
+            Ok(()) => println!(rt; "{name}: parts")?,
+            Err(refusal) => {
+                let number = refusal.number();
+                let spot = refusal.spot();
                 println!(rt; "{name}: refused: number {number}, spot {spot}")?
             }
         }
@@ -132,5 +132,7 @@ pub fn print_questions<S: GateSet>(rt: &HostRuntime, name: &str, set: &S) -> io:
 
 // Puts every question to a set, and counts.
 pub fn tally_questions<S: GateSet>(set: &S) -> Tally {
-    count(set, &ALONE).with(count(set, &TOGETHER))
+    let mut tally = count(set, &ALONE);
+    tally += count(set, &TOGETHER);
+    tally
 }

@@ -1,4 +1,7 @@
 // A search through all functions of up to three variables. A function is a number: the digit of weight 2 ^ i is its value at assignment i.
+ghost use Rattle.std.specs.Prelude.{◌<◌};
+
+use gatesets::Request;
 use tables::{ignores, points};
 
 // How many functions of three variables there are.
@@ -10,13 +13,10 @@ pub struct Reached {
     functions: [bool; FUNCTIONS],
 }
 
-// How many functions of so many variables there are.
-fn functions_of(variables: u8) -> usize {
-    match variables {
-        1 => 4,
-        2 => 16,
-        _ => FUNCTIONS,
-    }
+// How many rows there are with one of so many entries at each assignment of so many variables.
+pub fn rows_of(entries: usize, variables: u8) -> usize {
+    let points = points(variables).unwrap_or(0);
+    (0..points).fold(1usize, |rows, _| rows.saturating_mul(entries))
 }
 
 // The value of a gate for two inputs.
@@ -30,32 +30,42 @@ pub fn join(gate: [bool; 4], a: bool, b: bool) -> bool {
     }
 }
 
-// The truth values of a function.
-fn values(function: usize) -> [bool; 8] {
-    let mut row = [false; 8];
-    let mut rest = function;
-    for value in row.iter_mut() {
-        *value = rest % 2 == 1;
-        rest /= 2;
+// Writes the digits of a number to a base into a row, the lowest first.
+pub fn write_digits(row: &mut [u8], number: usize, base: u8)
+    requires { 0 < base }
+{
+    let mut rest = number;
+    for digit in row.iter_mut() {
+        *digit = (rest % base as usize) as u8;
+        rest /= base as usize;
     }
-    row
 }
 
-// The function of a row of truth values.
-fn function_of(row: &[bool; 8]) -> usize {
-    let mut function: usize = 0;
-    for value in row.iter().rev() {
-        function = function.wrapping_mul(2).wrapping_add(*value as usize);
+// The number whose digit of weight 2 ^ i says whether a row has this entry at i.
+fn number_of<T: PartialEq>(row: &[T], sought: &T) -> usize {
+    row.iter().rev().fold(0usize, |number, entry| {
+        number
+            .wrapping_mul(2)
+            .wrapping_add((entry == sought) as usize)
+    })
+}
+
+// The truth values of a function.
+fn values(function: usize) -> [bool; 8] {
+    let mut digits = [0; 8];
+    write_digits(&mut digits, function, 2);
+    let mut row = [false; 8];
+    for (value, digit) in row.iter_mut().zip(&digits) {
+        *value = *digit == 1;
     }
-    function
+    row
 }
 
 // Marks the functions of so many variables that ignore a group.
 fn ignoring(variables: u8, group: u16) -> [bool; FUNCTIONS] {
     let mut marks = [false; FUNCTIONS];
-    for (function, mark) in marks.iter_mut().enumerate() {
-        let inside = function < functions_of(variables);
-        *mark = inside && matches!(ignores(&values(function), variables, group), Ok(true));
+    for (function, mark) in marks.iter_mut().enumerate().take(rows_of(2, variables)) {
+        *mark = matches!(ignores(&values(function), variables, group), Ok(true));
     }
     marks
 }
@@ -66,27 +76,27 @@ fn joined(gate: [bool; 4], variables: u8, first: usize, second: usize) -> usize 
     let lefts = values(first);
     let rights = values(second);
     let mut row = [false; 8];
-    for (index, value) in row.iter_mut().enumerate() {
-        *value = index < points && join(gate, lefts[index], rights[index]);
+    for ((value, a), b) in row.iter_mut().zip(&lefts).zip(&rights).take(points) {
+        *value = join(gate, *a, *b);
     }
-    function_of(&row)
-}
-
-// Every function that a gate makes of a first function that ignores the right group and a second that ignores the left.
-pub fn reach(gate: [bool; 4], variables: u8, left: u16, right: u16) -> Reached {
-    let mut reached = Reached {
-        functions: [false; FUNCTIONS],
-    };
-    let seconds = ignoring(variables, left);
-    for (first, ignores) in ignoring(variables, right).iter().enumerate() {
-        if *ignores {
-            reached.add_joined(gate, variables, first, &seconds);
-        }
-    }
-    reached
+    number_of(&row, &true)
 }
 
 impl Reached {
+    // Every function that a gate makes of a first function that ignores the right group and a second that ignores the left.
+    pub fn by(gate: [bool; 4], ask: Request) -> Reached {
+        let mut reached = Reached {
+            functions: [false; FUNCTIONS],
+        };
+        let seconds = ignoring(ask.variables, ask.left);
+        for (first, ignores) in ignoring(ask.variables, ask.right).iter().enumerate() {
+            if *ignores {
+                reached.add_joined(gate, ask.variables, first, &seconds);
+            }
+        }
+        reached
+    }
+
     // Adds what the gate makes of one first function and each of the second functions.
     fn add_joined(
         &mut self,
@@ -103,31 +113,17 @@ impl Reached {
     }
 
     fn add(&mut self, function: usize) {
-        if function < FUNCTIONS {
-            self.functions[function] = true;
+        if let Some(mark) = self.functions.get_mut(function) {
+            *mark = true;
         }
     }
 
     // Whether a table admits one of the functions: it is 1 at each code 1, and 0 at each code 0.
     pub fn admitted(&self, codes: &[u8]) -> bool {
-        let ones = digits(codes, 1);
-        let zeros = digits(codes, 0);
-        for (function, reached) in self.functions.iter().enumerate() {
-            if *reached && function & ones == ones && function & zeros == 0 {
-                return true;
-            }
-        }
-        false
+        let ones = number_of(codes, &1);
+        let zeros = number_of(codes, &0);
+        self.functions.iter().enumerate().any(|(function, reached)| *reached
+            && function & ones == ones
+            && function & zeros == 0)
     }
-}
-
-// The assignments with a code, as digits of a number.
-fn digits(codes: &[u8], code: u8) -> usize {
-    let mut number: usize = 0;
-    for each in codes.iter().rev() {
-        number = number
-            .wrapping_mul(2)
-            .wrapping_add((*each == code) as usize);
-    }
-    number
 }

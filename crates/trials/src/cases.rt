@@ -1,12 +1,5 @@
 // Questions to a set of one gate, each with the answer that is expected.
-use gatesets::Request;
-
-// The answer to a question: parts, or a refusal with its number and spot.
-#[derive(Clone, Copy, PartialEq, Eq)]
-pub enum Answer {
-    Parts,
-    Refused { number: u8, spot: usize },
-}
+use gatesets::{Request, SplitRefusal};
 
 // How long the five rows are.
 #[derive(Clone, Copy)]
@@ -18,14 +11,14 @@ pub struct Lengths {
     pub second: usize,
 }
 
-// A question: what is asked, the lengths of the rows, and the first codes of the table, which is free beyond them.
+// A question: what is asked, the lengths of the rows, the first codes of the table, which is free beyond them, and the answer: parts, or a refusal.
 #[derive(Clone, Copy)]
 pub struct Case {
     pub name: &'static str,
     pub ask: Request,
     pub lengths: Lengths,
     pub codes: [u8; 8],
-    pub expected: Answer,
+    pub expected: Result<(), SplitRefusal>,
 }
 
 // The longest rows: they suffice for 11 variables.
@@ -94,21 +87,6 @@ const TOO_MANY: Request = Request {
     ..ASK
 };
 
-const SIZE: Answer = Answer::Refused { number: 1, spot: 0 };
-
-const SHORT: Answer = Answer::Refused { number: 2, spot: 0 };
-
-const CODE: Answer = Answer::Refused { number: 5, spot: 5 };
-
-const GATE: Answer = Answer::Refused { number: 8, spot: 0 };
-
-const GROUPS: Answer = Answer::Refused { number: 9, spot: 0 };
-
-const NO_PAIR: Answer = Answer::Refused {
-    number: 20,
-    spot: 0,
-};
-
 // Every refusal alone.
 pub const ALONE: [Case; 20] = [
     Case {
@@ -116,14 +94,14 @@ pub const ALONE: [Case; 20] = [
         ask: ASK,
         lengths: FIT,
         codes: SPLIT,
-        expected: Answer::Parts,
+        expected: Ok(()),
     },
     Case {
         name: "rows that are longer",
         ask: ASK,
         lengths: LONG,
         codes: SPLIT,
-        expected: Answer::Parts,
+        expected: Ok(()),
     },
     Case {
         name: "0 variables",
@@ -133,14 +111,14 @@ pub const ALONE: [Case; 20] = [
         },
         lengths: LONG,
         codes: SPLIT,
-        expected: SIZE,
+        expected: Err(SplitRefusal::Variables),
     },
     Case {
         name: "11 variables",
         ask: TOO_MANY,
         lengths: LONG,
         codes: SPLIT,
-        expected: SIZE,
+        expected: Err(SplitRefusal::Variables),
     },
     Case {
         name: "255 variables",
@@ -150,77 +128,77 @@ pub const ALONE: [Case; 20] = [
         },
         lengths: LONG,
         codes: SPLIT,
-        expected: SIZE,
+        expected: Err(SplitRefusal::Variables),
     },
     Case {
         name: "the table row one too short",
         ask: ASK,
         lengths: SHORT_TABLE,
         codes: SPLIT,
-        expected: SHORT,
+        expected: Err(SplitRefusal::TooShort),
     },
     Case {
         name: "the left row one too short",
         ask: ASK,
         lengths: SHORT_LEFT,
         codes: SPLIT,
-        expected: SHORT,
+        expected: Err(SplitRefusal::TooShort),
     },
     Case {
         name: "the right row one too short",
         ask: ASK,
         lengths: SHORT_RIGHT,
         codes: SPLIT,
-        expected: SHORT,
+        expected: Err(SplitRefusal::TooShort),
     },
     Case {
         name: "the first work row one too short",
         ask: ASK,
         lengths: SHORT_FIRST,
         codes: SPLIT,
-        expected: SHORT,
+        expected: Err(SplitRefusal::TooShort),
     },
     Case {
         name: "the second work row one too short",
         ask: ASK,
         lengths: SHORT_SECOND,
         codes: SPLIT,
-        expected: SHORT,
+        expected: Err(SplitRefusal::TooShort),
     },
     Case {
         name: "codes above 2 at 5 and 7",
         ask: ASK,
         lengths: FIT,
         codes: WRONG,
-        expected: CODE,
+        expected: Err(SplitRefusal::Code { index: 5 }),
     },
     Case {
         name: "no gate of number 1",
         ask: NO_GATE,
         lengths: FIT,
         codes: SPLIT,
-        expected: GATE,
+        expected: Err(SplitRefusal::Gate),
     },
     Case {
         name: "groups a and a",
         ask: SAME,
         lengths: FIT,
         codes: SPLIT,
-        expected: GROUPS,
+        expected: Err(SplitRefusal::Groups),
     },
     Case {
         name: "an empty left group",
         ask: Request { left: 0, ..ASK },
         lengths: FIT,
         codes: SPLIT,
-        expected: GROUPS,
+        expected: Err(SplitRefusal::Groups),
     },
     Case {
         name: "an empty right group",
         ask: Request { right: 0, ..ASK },
         lengths: FIT,
         codes: SPLIT,
-        expected: GROUPS,
+        expected: Err(SplitRefusal::Groups),
     },
     Case {
         name: "groups ab and bc",
@@ -231,21 +209,21 @@ pub const ALONE: [Case; 20] = [
         },
         lengths: FIT,
         codes: SPLIT,
-        expected: GROUPS,
+        expected: Err(SplitRefusal::Groups),
     },
     Case {
         name: "a left group with d",
         ask: Request { left: 9, ..ASK },
         lengths: FIT,
         codes: SPLIT,
-        expected: GROUPS,
+        expected: Err(SplitRefusal::Groups),
     },
     Case {
         name: "a right group with d",
         ask: Request { right: 10, ..ASK },
         lengths: FIT,
         codes: SPLIT,
-        expected: GROUPS,
+        expected: Err(SplitRefusal::Groups),
     },
     Case {
         name: "a right group with the last digit",
@@ -255,14 +233,14 @@ pub const ALONE: [Case; 20] = [
         },
         lengths: FIT,
         codes: SPLIT,
-        expected: GROUPS,
+        expected: Err(SplitRefusal::Groups),
     },
     Case {
         name: "a table without parts",
         ask: ASK,
         lengths: FIT,
         codes: UNSPLIT,
-        expected: NO_PAIR,
+        expected: Err(SplitRefusal::NoPair),
     },
 ];
 
@@ -273,14 +251,14 @@ pub const TOGETHER: [Case; 15] = [
         ask: TOO_MANY,
         lengths: FIT,
         codes: SPLIT,
-        expected: SIZE,
+        expected: Err(SplitRefusal::Variables),
     },
     Case {
         name: "11 variables and a code above 2",
         ask: TOO_MANY,
         lengths: LONG,
         codes: WRONG,
-        expected: SIZE,
+        expected: Err(SplitRefusal::Variables),
     },
     Case {
         name: "11 variables and no such gate",
@@ -290,7 +268,7 @@ pub const TOGETHER: [Case; 15] = [
         },
         lengths: LONG,
         codes: SPLIT,
-        expected: SIZE,
+        expected: Err(SplitRefusal::Variables),
     },
     Case {
         name: "11 variables and groups a and a",
@@ -300,83 +278,83 @@ pub const TOGETHER: [Case; 15] = [
         },
         lengths: LONG,
         codes: SPLIT,
-        expected: SIZE,
+        expected: Err(SplitRefusal::Variables),
     },
     Case {
         name: "11 variables and no parts",
         ask: TOO_MANY,
         lengths: LONG,
         codes: UNSPLIT,
-        expected: SIZE,
+        expected: Err(SplitRefusal::Variables),
     },
     Case {
         name: "a short row and a code above 2",
         ask: ASK,
         lengths: SHORT_TABLE,
         codes: WRONG,
-        expected: SHORT,
+        expected: Err(SplitRefusal::TooShort),
     },
     Case {
         name: "a short row and no such gate",
         ask: NO_GATE,
         lengths: SHORT_LEFT,
         codes: SPLIT,
-        expected: SHORT,
+        expected: Err(SplitRefusal::TooShort),
     },
     Case {
         name: "a short row and groups a and a",
         ask: SAME,
         lengths: SHORT_SECOND,
         codes: SPLIT,
-        expected: SHORT,
+        expected: Err(SplitRefusal::TooShort),
     },
     Case {
         name: "a short row and no parts",
         ask: ASK,
         lengths: SHORT_FIRST,
         codes: UNSPLIT,
-        expected: SHORT,
+        expected: Err(SplitRefusal::TooShort),
     },
     Case {
         name: "a code above 2 and no such gate",
         ask: NO_GATE,
         lengths: FIT,
         codes: WRONG,
-        expected: CODE,
+        expected: Err(SplitRefusal::Code { index: 5 }),
     },
     Case {
         name: "a code above 2 and groups a and a",
         ask: SAME,
         lengths: FIT,
         codes: WRONG,
-        expected: CODE,
+        expected: Err(SplitRefusal::Code { index: 5 }),
     },
     Case {
         name: "a code above 2 and no parts",
         ask: ASK,
         lengths: FIT,
         codes: WRONG_UNSPLIT,
-        expected: CODE,
+        expected: Err(SplitRefusal::Code { index: 5 }),
     },
     Case {
         name: "no such gate and groups a and a",
         ask: NO_GATE_SAME,
         lengths: FIT,
         codes: SPLIT,
-        expected: GATE,
+        expected: Err(SplitRefusal::Gate),
     },
     Case {
         name: "no such gate and no parts",
         ask: NO_GATE,
         lengths: FIT,
         codes: UNSPLIT,
-        expected: GATE,
+        expected: Err(SplitRefusal::Gate),
     },
     Case {
         name: "groups a and a and no parts",
         ask: SAME,
         lengths: FIT,
         codes: UNSPLIT,
-        expected: GROUPS,
+        expected: Err(SplitRefusal::Groups),
     },
 ];

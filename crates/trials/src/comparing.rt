@@ -1,6 +1,8 @@
 // Compares the splits of every table of up to three variables with the search.
-use crate::brute::{Reached, join, reach};
-use gatesets::{GateSet, Request, SplitRefusal};
+use crate::brute::{Reached, join, rows_of, write_digits};
+use gatesets::{GateSet, LentRows, Request, SplitRefusal};
+use std::fmt;
+use std::ops::AddAssign;
 use tables::{ignores, points, table_in};
 
 // The length of the rows: one more than a table of three variables has codes.
@@ -10,63 +12,41 @@ const LENGTH: usize = 9;
 const BEYOND: u8 = 7;
 
 // How many splits were compared, how they ended, and how many differ from the search.
-#[derive(Clone, Copy)]
+#[derive(Clone, Copy, Default)]
 pub struct Compared {
     pub parts: u64,
     pub none: u64,
     pub different: u64,
 }
 
-// A split that ended: what was asked, the table before and after, and the part rows.
-#[derive(Clone, Copy)]
-struct Ended {
-    ask: Request,
-    gate: [bool; 4],
-    before: [u8; LENGTH],
-    after: [u8; LENGTH],
-    left: [u8; LENGTH],
-    right: [u8; LENGTH],
-}
-
-impl Compared {
-    pub fn new() -> Compared {
-        Compared {
-            parts: 0,
-            none: 0,
-            different: 0,
-        }
-    }
-
-    pub fn splits(self) -> u64 {
-        self.parts.saturating_add(self.none)
-    }
-
-    pub fn with(self, other: Compared) -> Compared {
-        Compared {
-            parts: self.parts.saturating_add(other.parts),
-            none: self.none.saturating_add(other.none),
-            different: self.different.saturating_add(other.different),
-        }
+impl AddAssign for Compared {
+    fn add_assign(&mut self, other: Compared) {
+        self.parts = self.parts.saturating_add(other.parts);
+        self.none = self.none.saturating_add(other.none);
+        self.different = self.different.saturating_add(other.different);
     }
 }
 
-// How many tables of so many variables there are: three codes at each assignment.
-fn tables_of(variables: u8) -> usize {
-    match variables {
-        1 => 9,
-        2 => 81,
-        _ => 6561,
+impl fmt::Display for Compared {
+    fn fmt<W: fmt::Write>(&self, f: &mut fmt::Formatter<W>) -> fmt::Result {
+        let Compared {
+            parts,
+            none,
+            different,
+        } = self;
+        let splits = parts.saturating_add(*none);
+        write!(
+            f,
+            "splits compared: {splits}, with parts: {parts}, without: {none}, different: {different}"
+        )
     }
 }
 
 // The table of a number: its digits to the base 3 are the codes.
 fn table_of(variables: u8, number: usize) -> [u8; LENGTH] {
     let mut row = [BEYOND; LENGTH];
-    let mut rest = number;
-    for code in row.iter_mut().take(points(variables).unwrap_or(0)) {
-        *code = (rest % 3) as u8;
-        rest /= 3;
-    }
+    let points = points(variables).unwrap_or(0).min(LENGTH);
+    write_digits(&mut row[0..points], number, 3);
     row
 }
 
@@ -81,13 +61,8 @@ fn ignores_group(row: &[u8], variables: u8, group: u16) -> bool {
 
 // Whether a row begins with codes for every assignment, and holds beyond them what it held.
 fn is_part(row: &[u8; LENGTH], variables: u8) -> bool {
-    let points = points(variables).unwrap_or(0);
-    for (index, code) in row.iter().enumerate() {
-        if index < points && *code > 2 || index >= points && *code != BEYOND {
-            return false;
-        }
-    }
-    true
+    let (codes, beyond) = row.split_at(points(variables).unwrap_or(0).min(LENGTH));
+    codes.iter().all(|code| *code <= 2) && beyond.iter().all(|code| *code == BEYOND)
 }
 
 // Whether each two values that two codes allow join to a value that the table's code allows.
@@ -102,34 +77,33 @@ fn joins_at(gate: [bool; 4], table: u8, left: u8, right: u8) -> bool {
     true
 }
 
+// A split that ended: what was asked, the table before and after, and the part rows.
+#[derive(Clone, Copy)]
+struct Ended {
+    ask: Request,
+    gate: [bool; 4],
+    before: [u8; LENGTH],
+    after: [u8; LENGTH],
+    left: [u8; LENGTH],
+    right: [u8; LENGTH],
+}
+
 impl Ended {
     // Whether the parts join to the table at every assignment.
     fn joins(&self) -> bool {
-        for index in 0..points(self.ask.variables).unwrap_or(0).min(LENGTH) {
-            if !joins_at(
-                self.gate,
-                self.before[index],
-                self.left[index],
-                self.right[index],
-            ) {
-                return false;
-            }
-        }
-        true
+        let points = points(self.ask.variables).unwrap_or(0);
+        let codes = self.before.iter().zip(&self.left).zip(&self.right);
+        codes.take(points).all(|((table, left), right)| joins_at(self.gate, *table, *left, *right))
     }
 
     // Whether neither part depends on a variable on which the table does not.
     fn needs_no_other(&self) -> bool {
         let variables = self.ask.variables;
-        for group in [1, 2, 4] {
-            let free = ignores_group(&self.before, variables, group);
-            let left = ignores_group(&self.left, variables, group);
-            let right = ignores_group(&self.right, variables, group);
-            if free && !(left && right) {
-                return false;
-            }
-        }
-        true
+        [1, 2, 4].iter().all(|group| {
+            !ignores_group(&self.before, variables, *group)
+                || ignores_group(&self.left, variables, *group)
+                    && ignores_group(&self.right, variables, *group)
+        })
     }
 
     // Whether the part rows hold parts of the table.
@@ -157,14 +131,14 @@ fn compare_table<S: GateSet>(set: &S, ask: Request, reached: &Reached, number: u
     let mut right = [BEYOND; LENGTH];
     let mut first = [0; 16];
     let mut second = [0; 16];
-    let result = set.split(
-        ask,
-        &mut after,
-        &mut left,
-        &mut right,
-        &mut first,
-        &mut second,
-    );
+    let mut rows = LentRows {
+        table: &mut after,
+        left: &mut left,
+        right: &mut right,
+        first: &mut first,
+        second: &mut second,
+    };
+    let result = set.split(ask, &mut rows);
     let ended = Ended {
         ask,
         gate: set.answers(ask.gate),
@@ -188,10 +162,10 @@ fn compare_table<S: GateSet>(set: &S, ask: Request, reached: &Reached, number: u
 
 // Splits every table of so many variables under two groups, and compares.
 fn compare_tables<S: GateSet>(set: &S, ask: Request) -> Compared {
-    let reached = reach(set.answers(ask.gate), ask.variables, ask.left, ask.right);
-    let mut compared = Compared::new();
-    for number in 0..tables_of(ask.variables) {
-        compared = compared.with(compare_table(set, ask, &reached, number));
+    let reached = Reached::by(set.answers(ask.gate), ask);
+    let mut compared = Compared::default();
+    for number in 0..rows_of(3, ask.variables) {
+        compared += compare_table(set, ask, &reached, number);
     }
     compared
 }
@@ -199,7 +173,7 @@ fn compare_tables<S: GateSet>(set: &S, ask: Request) -> Compared {
 // Splits every table of so many variables by a gate under every lawful pair of groups, and compares.
 pub fn compare_groups<S: GateSet>(set: &S, gate: u8, variables: u8) -> Compared {
     let groups = points(variables).unwrap_or(0).min(8) as u16;
-    let mut compared = Compared::new();
+    let mut compared = Compared::default();
     for left in 1..groups {
         for right in 1..groups {
             if left & right == 0 {
@@ -209,7 +183,7 @@ pub fn compare_groups<S: GateSet>(set: &S, gate: u8, variables: u8) -> Compared 
                     left,
                     right,
                 };
-                compared = compared.with(compare_tables(set, ask));
+                compared += compare_tables(set, ask);
             }
         }
     }

@@ -18,7 +18,7 @@ use xorset::Xor;
 fn run(rt: &HostRuntime) -> io::Result<()> {
     let and = Opposite(Or);
     print_questions(rt, "or", &Or)?;
-    let mut trial = Trial::new();
+    let mut trial = Trial::default();
     trial.run(rt, "or", &Or)?;
     trial.run(rt, "and", &and)?;
     trial.run(rt, "xor", &Xor)?;

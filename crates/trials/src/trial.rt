@@ -5,7 +5,7 @@ use gatesets::GateSet;
 use std::io;
 use tables::gate_code;
 
-#[derive(Clone, Copy)]
+#[derive(Clone, Copy, Default)]
 pub struct Trial {
     tally: Tally,
     compared: Compared,
@@ -22,53 +22,12 @@ fn print_gates<S: GateSet>(rt: &HostRuntime, name: &str, set: &S) -> io::Result<
     println!(rt; "{name}: gate {count}, past the last: code {code}")
 }
 
-fn print_tally(rt: &HostRuntime, name: &str, tally: Tally) -> io::Result<()> {
-    let expected = tally.expected;
-    let others = tally.others;
-    let refused = tally.refused;
-    let kept = tally.kept;
-    println!(rt;
-        "{name}: questions answered as expected: {expected}, otherwise: {others}; refused: {refused}, of these with rows as before: {kept}"
-    )
-}
-
-fn print_compared(rt: &HostRuntime, compared: Compared) -> io::Result<()> {
-    let splits = compared.splits();
-    let parts = compared.parts;
-    let none = compared.none;
-    let different = compared.different;
-    println!(rt;
-        "splits compared: {splits}, with parts: {parts}, without: {none}, different: {different}"
-    )
-}
-
-// Compares the splits of every table of so many variables by a gate, and prints how they ended.
-fn compare_size<S: GateSet>(
-    rt: &HostRuntime,
-    name: &str,
-    set: &S,
-    gate: u8,
-    variables: u8,
-) -> io::Result<Compared> {
-    let compared = compare_groups(set, gate, variables);
-    print!(rt; "{name}: gate {gate}, n = {variables}: ")?;
-    print_compared(rt, compared)?;
-    Ok(compared)
-}
-
 impl Trial {
-    pub fn new() -> Trial {
-        Trial {
-            tally: Tally::new(),
-            compared: Compared::new(),
-        }
-    }
-
     // Tries a set of one gate.
     pub fn run<S: GateSet>(&mut self, rt: &HostRuntime, name: &str, set: &S) -> io::Result<()> {
         let tally = tally_questions(set);
-        print_tally(rt, name, tally)?;
-        self.tally = self.tally.with(tally);
+        println!(rt; "{name}: {tally}")?;
+        self.tally += tally;
         self.compare(rt, name, set)
     }
 
@@ -77,8 +36,9 @@ impl Trial {
         print_gates(rt, name, set)?;
         for gate in 0..set.count() {
             for variables in 1..4 {
-                let compared = compare_size(rt, name, set, gate, variables)?;
-                self.compared = self.compared.with(compared);
+                let compared = compare_groups(set, gate, variables);
+                println!(rt; "{name}: gate {gate}, n = {variables}: {compared}")?;
+                self.compared += compared;
             }
         }
         Ok(())
@@ -86,10 +46,10 @@ impl Trial {
 
     // Prints the totals over all sets.
     pub fn print_totals(&self, rt: &HostRuntime) -> io::Result<()> {
-        print_tally(rt, "all sets", self.tally)?;
-        print!(rt; "all sets: ")?;
-        print_compared(rt, self.compared)?;
-        match self.compared.different {
+        let Trial { tally, compared } = self;
+        println!(rt; "all sets: {tally}")?;
+        println!(rt; "all sets: {compared}")?;
+        match compared.different {
             0 => println!(rt; "none of the splits differs from the search"),
             different => println!(rt; "splits that differ from the search: {different}"),
         }
