@@ -43,6 +43,11 @@ pub const USAGE: [&str; 5] = [
     "help                 these lines",
 ];
 
+// The byte number that a word is.
+fn parse_byte(word: &str) -> Result<usize, Mistake<'_>> {
+    word.parse().map_err(|_| Mistake::ByteNumber { word })
+}
+
 // The group that a word of letters names.
 fn parse_group(word: &str) -> Result<u16, Mistake<'_>> {
     let mut group = 0;
@@ -59,60 +64,39 @@ fn parse_group(word: &str) -> Result<u16, Mistake<'_>> {
     Ok(group)
 }
 
-// Reads the words that say what is to be split.
-fn parse_split<'a>(words: [&'a str; 5]) -> Result<Command<'a>, Mistake<'a>> {
-    let [file, byte, gate, left, right] = words;
-    let Ok(byte) = byte.parse::<usize>() else {
-        return Err(Mistake::ByteNumber { word: byte });
-    };
-    let Some(gate) = gate_number(gate) else {
-        return Err(Mistake::Gate { word: gate });
-    };
-    Ok(Command::Split(Splitting {
-        file,
-        byte,
-        gate,
-        left: parse_group(left)?,
-        right: parse_group(right)?,
-    }))
-}
-
 // Reads the words of a command line.
 pub fn parse<'a>(words: &[&'a str]) -> Result<Command<'a>, Mistake<'a>> {
-    let Some(first) = words.first() else {
-        return Err(Mistake::Empty);
+    let usage = match *words {
+        [] => return Err(Mistake::Empty),
+        ["list", file] => return Ok(Command::List { file }),
+        ["list", ..] => "list FILE",
+        ["show", file, byte] => {
+            return Ok(Command::Show {
+                file,
+                byte: parse_byte(byte)?,
+            });
+        }
+        ["show", ..] => "show FILE BYTE",
+        ["split", file, byte, gate, left, right] => {
+            return Ok(Command::Split(Splitting {
+                file,
+                byte: parse_byte(byte)?,
+                gate: gate_number(gate).ok_or(Mistake::Gate { word: gate })?,
+                left: parse_group(left)?,
+                right: parse_group(right)?,
+            }));
+        }
+        ["split", ..] => "split FILE BYTE GATE LEFT RIGHT",
+        ["rewrite", file, to] if file == to => return Err(Mistake::Onto { file }),
+        ["rewrite", file, to] => return Ok(Command::Rewrite { file, to }),
+        ["rewrite", ..] => "rewrite FILE TO",
+        ["worked"] => return Ok(Command::Worked),
+        ["worked", ..] => "worked",
+        ["help"] => return Ok(Command::Help),
+        ["help", ..] => "help",
+        [word, ..] => return Err(Mistake::Unknown { word }),
     };
-    match (*first, words.len()) {
-        ("list", 2) => Ok(Command::List { file: words[1] }),
-        ("list", _) => Err(Mistake::Usage { usage: "list FILE" }),
-        ("show", 3) => match words[2].parse::<usize>() {
-            Ok(byte) => Ok(Command::Show {
-                file: words[1],
-                byte,
-            }),
-            Err(_) => Err(Mistake::ByteNumber { word: words[2] }),
-        },
-        ("show", _) => Err(Mistake::Usage {
-            usage: "show FILE BYTE",
-        }),
-        ("split", 6) => parse_split([words[1], words[2], words[3], words[4], words[5]]),
-        ("split", _) => Err(Mistake::Usage {
-            usage: "split FILE BYTE GATE LEFT RIGHT",
-        }),
-        ("rewrite", 3) if words[1] == words[2] => Err(Mistake::Onto { file: words[1] }),
-        ("rewrite", 3) => Ok(Command::Rewrite {
-            file: words[1],
-            to: words[2],
-        }),
-        ("rewrite", _) => Err(Mistake::Usage {
-            usage: "rewrite FILE TO",
-        }),
-        ("worked", 1) => Ok(Command::Worked),
-        ("worked", _) => Err(Mistake::Usage { usage: "worked" }),
-        ("help", 1) => Ok(Command::Help),
-        ("help", _) => Err(Mistake::Usage { usage: "help" }),
-        (word, _) => Err(Mistake::Unknown { word }),
-    }
+    Err(Mistake::Usage { usage })
 }
 
 impl<'a> fmt::Display for Mistake<'a> {

@@ -4,11 +4,11 @@ use crate::grid::print_grid;
 use crate::refused::print_refused;
 use crate::splits::split_entry;
 use questions::{
-    Entry, EntryFault, Form, Listed, RewriteError, Rewriting, Rewritten, Stop, list_dictionary,
-    read_entry, rewrite_dictionary,
+    Entry, Form, Listed, RewriteError, Rewriting, Rewritten, Stop, list_dictionary, read_entry,
+    rewrite_dictionary,
 };
 use std::{fs, io};
-use tables::{count_codes, table_in};
+use tables::{Counts, count_codes, table_in};
 use worked::worked_questions;
 
 // Obeys the words of one command line.
@@ -43,24 +43,9 @@ fn form_name(form: Form) -> &'static str {
     }
 }
 
-// What a refusal means, for a row that takes any table.
-fn meaning(fault: EntryFault) -> &'static str {
-    match fault {
-        EntryFault::NoByte => "the file has no byte there",
-        EntryFault::Variables => "the first byte names no number of variables from 1 to 10",
-        EntryFault::TooShort => "the file ends within the entry",
-        EntryFault::SpareDigit { .. } => {
-            "a digit that stands for no assignment is set in that byte of the entry"
-        }
-        EntryFault::LowerAboveUpper { .. } => {
-            "the lower row is above the upper row at that assignment"
-        }
-    }
-}
-
 // The line of an entry that is refused.
 fn print_refusal(rt: &HostRuntime, file: &str, stop: Stop) -> io::Result<()> {
-    print_refused(rt, file, stop.at, &stop.fault, meaning(stop.fault))
+    print_refused(rt, file, stop.at, &stop.fault)
 }
 
 // The bytes of a file; where it cannot be read, that is said.
@@ -75,12 +60,10 @@ fn read_file(rt: &HostRuntime, file: &str) -> io::Result<Option<Vec<u8>>> {
 }
 
 fn print_listed(rt: &HostRuntime, listed: &Listed) -> io::Result<()> {
-    let at = listed.at;
-    let variables = listed.entry.variables;
-    let form = form_name(listed.entry.form);
-    let zeros = listed.counts.zeros;
-    let ones = listed.counts.ones;
-    let frees = listed.counts.frees;
+    let Listed { at, entry, counts } = listed;
+    let variables = entry.variables;
+    let form = form_name(entry.form);
+    let Counts { zeros, ones, frees } = counts;
     println!(rt;
         "byte {at}: n = {variables}, {form}, codes: {zeros} of 0, {ones} of 1, {frees} free"
     )
@@ -124,34 +107,38 @@ fn print_entry(
     println!(rt; "{file}: the next entry is at byte {next}")
 }
 
-fn show(rt: &HostRuntime, file: &str, byte: usize) -> io::Result<()> {
+// Reads the entry at a byte number of a file into a row; where there is none to read, that is said.
+fn read_at(rt: &HostRuntime, file: &str, byte: usize, row: &mut [u8]) -> io::Result<Option<Entry>> {
     let Some(bytes) = read_file(rt, file)? else {
-        return Ok(());
+        return Ok(None);
     };
-    let mut row = [0; 1024];
-    match read_entry(bytes.as_slice(), byte, &mut row) {
-        Ok(entry) => print_entry(rt, file, byte, entry, &row),
-        Err(fault) => print_refusal(rt, file, Stop { at: byte, fault }),
-    }
-}
-
-fn split(rt: &HostRuntime, splitting: Splitting<'_>) -> io::Result<()> {
-    let Some(bytes) = read_file(rt, splitting.file)? else {
-        return Ok(());
-    };
-    let mut row = [0; 1024];
-    match read_entry(bytes.as_slice(), splitting.byte, &mut row) {
-        Ok(entry) => split_entry(rt, splitting, entry.variables, &mut row),
+    match read_entry(bytes.as_slice(), byte, row) {
+        Ok(entry) => Ok(Some(entry)),
         Err(fault) => {
-            let at = splitting.byte;
-            print_refusal(rt, splitting.file, Stop { at, fault })
+            print_refused(rt, file, byte, &fault)?;
+            Ok(None)
         }
     }
 }
 
+fn show(rt: &HostRuntime, file: &str, byte: usize) -> io::Result<()> {
+    let mut row = [0; 1024];
+    match read_at(rt, file, byte, &mut row)? {
+        Some(entry) => print_entry(rt, file, byte, entry, &row),
+        None => Ok(()),
+    }
+}
+
+fn split(rt: &HostRuntime, splitting: Splitting<'_>) -> io::Result<()> {
+    let mut row = [0; 1024];
+    match read_at(rt, splitting.file, splitting.byte, &mut row)? {
+        Some(entry) => split_entry(rt, splitting, entry.variables, &mut row),
+        None => Ok(()),
+    }
+}
+
 fn print_change(rt: &HostRuntime, change: &Rewritten) -> io::Result<()> {
-    let from = change.from;
-    let to = change.to;
+    let Rewritten { from, to, .. } = change;
     let before = form_name(change.before);
     let after = form_name(change.after);
     println!(rt; "byte {from}: now at byte {to}, {before} became {after}")

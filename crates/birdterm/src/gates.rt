@@ -25,12 +25,6 @@ pub fn all_gates() -> Gates {
 
 // The number of the gate with a name.
 pub fn gate_number(name: &str) -> Option<u8> {
-    let mut number: u8 = 0;
-    for each in GATES {
-        if each == name {
-            return Some(number);
-        }
-        number = number.wrapping_add(1);
-    }
-    None
+    let number = GATES.iter().position(|each| *each == name)?;
+    u8::try_from(number).ok()
 }

@@ -2,20 +2,9 @@
 use std::alloc::{AllocError, Global};
 use std::io;
 
-// The letter of a variable.
+// The letter of a variable: a for number 0.
 fn letter(variable: u8) -> char {
-    match variable {
-        0 => 'a',
-        1 => 'b',
-        2 => 'c',
-        3 => 'd',
-        4 => 'e',
-        5 => 'f',
-        6 => 'g',
-        7 => 'h',
-        8 => 'i',
-        _ => 'j',
-    }
+    char::from(b'a'.wrapping_add(variable))
 }
 
 // The letter of a code.
@@ -35,14 +24,17 @@ fn push_letters(text: &mut String, low: u8, high: u8) -> Result<(), AllocError> 
     Ok(())
 }
 
+fn push_blanks(text: &mut String, count: u8) -> Result<(), AllocError> {
+    for _ in 0..count {
+        text.push(' ')?;
+    }
+    Ok(())
+}
+
 // The values of so many variables in a number, the highest first.
 fn push_values(text: &mut String, number: usize, variables: u8) -> Result<(), AllocError> {
     for variable in (0..variables).rev() {
-        let value = if variable < 16 {
-            (number >> variable) & 1
-        } else {
-            0
-        };
+        let value = number.checked_shr(variable as u32).unwrap_or(0) & 1;
         text.push(if value == 1 { '1' } else { '0' })?;
     }
     Ok(())
@@ -73,13 +65,9 @@ fn line(
     let mut text = String::new(heap);
     push_values(&mut text, row, down)?;
     text.push_str("   ")?;
-    for _ in 0..across {
-        text.push(' ')?;
-    }
+    push_blanks(&mut text, across)?;
     for code in codes {
-        for _ in 0..across {
-            text.push(' ')?;
-        }
+        push_blanks(&mut text, across)?;
         text.push(symbol(*code))?;
     }
     Ok(text)

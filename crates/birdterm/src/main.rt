@@ -41,10 +41,10 @@ fn obey_all(rt: &HostRuntime) -> io::Result<()> {
     if arguments.is_empty() {
         return obey_lines(rt);
     }
-    let mut words = Vec::new(rt.alloc());
-    for argument in arguments.iter() {
-        words.push(argument.as_str())?;
-    }
+    let words: Vec<&str> = arguments
+        .iter()
+        .map(|argument| argument.as_str())
+        .collect(rt.alloc())?;
     obey(rt, words.as_slice())
 }
 

@@ -3,23 +3,9 @@ use crate::command::Splitting;
 use crate::gates::all_gates;
 use crate::grid::print_grid;
 use crate::refused::print_refused;
-use gatesets::{GateSet, Request, SplitRefusal};
+use gatesets::{GateSet, LentRows, Request};
 use std::io;
 use tables::{gate_code, table_in};
-
-// What a refusal means, for rows that take any table.
-fn meaning(refusal: SplitRefusal) -> &'static str {
-    match refusal {
-        SplitRefusal::Variables => "the number of variables is not from 1 to 10",
-        SplitRefusal::TooShort => "a row is too short for the table",
-        SplitRefusal::Code { .. } => "that code of the table is above 2",
-        SplitRefusal::Gate => "there is no such gate",
-        SplitRefusal::Groups => {
-            "a group is empty, or has a variable that the other group has too or that the entry has not"
-        }
-        SplitRefusal::NoPair => "no such parts exist",
-    }
-}
 
 // Prints a part of a table of so many variables.
 fn print_part(rt: &HostRuntime, side: &str, variables: u8, row: &[u8]) -> io::Result<()> {
@@ -45,7 +31,14 @@ pub fn split_entry(
         left: splitting.left,
         right: splitting.right,
     };
-    match gates.split(ask, table, &mut left, &mut right, &mut first, &mut second) {
+    let mut rows = LentRows {
+        table,
+        left: &mut left,
+        right: &mut right,
+        first: &mut first,
+        second: &mut second,
+    };
+    match gates.split(ask, &mut rows) {
         Ok(()) => {
             let at = splitting.byte;
             let code = gate_code(gates.answers(ask.gate));
@@ -53,9 +46,6 @@ pub fn split_entry(
             print_part(rt, "left", variables, &left)?;
             print_part(rt, "right", variables, &right)
         }
-        Err(refusal) => {
-            let meaning = meaning(refusal);
-            print_refused(rt, splitting.file, splitting.byte, &refusal, meaning)
-        }
+        Err(refusal) => print_refused(rt, splitting.file, splitting.byte, &refusal),
     }
 }

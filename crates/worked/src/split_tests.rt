@@ -1,5 +1,5 @@
 // Questions about groups, gates, stacks and splits, put to the code itself: expected values are worked out by hand from the rules.
-use gatesets::{GateSet, LeftInverted, Opposite, PairOf, Request};
+use gatesets::{GateSet, LeftInverted, LentRows, Opposite, PairOf, Request};
 use orset::Or;
 use std::test::Fail;
 use tables::{Refusal, Stack, StackRefusal, complement_code, gate_code, ignores};
@@ -68,8 +68,12 @@ fn codes_of_gates(rt: HostRuntime) {
     assert_eq!(rt; complement_code(255), 255);
 }
 
-// A split of a table of two variables, with a row that is one longer, under groups a and b.
-fn split_two<S: GateSet>(set: &S, gate: u8, codes: [u8; 4]) -> (u8, [u8; 5], [u8; 5]) {
+// A split of a table of two variables, with a row that is one longer, under groups a and b: parts or the number of the refusal, and both part rows.
+fn split_two<S: GateSet>(
+    set: &S,
+    gate: u8,
+    codes: [u8; 4],
+) -> (Result<(), u8>, [u8; 5], [u8; 5]) {
     let ask = Request {
         variables: 2,
         gate,
@@ -81,26 +85,25 @@ fn split_two<S: GateSet>(set: &S, gate: u8, codes: [u8; 4]) -> (u8, [u8; 5], [u8
     let mut right = [7; 5];
     let mut first = [0; 8];
     let mut second = [0; 8];
-    let number = match set.split(
-        ask,
-        &mut table,
-        &mut left,
-        &mut right,
-        &mut first,
-        &mut second,
-    ) {
-        Ok(()) => 0,
-        Err(refusal) => refusal.number(),
+    let mut rows = LentRows {
+        table: &mut table,
+        left: &mut left,
+        right: &mut right,
+        first: &mut first,
+        second: &mut second,
     };
-    (number, left, right)
+    let answer = set
+        .split(ask, &mut rows)
+        .map_err(|refusal| refusal.number());
+    (answer, left, right)
 }
 
 #[test]
 fn splits_leave_codes_past_the_parts(rt: HostRuntime) {
-    assert!(rt; split_two(&Or, 0, [0, 2, 2, 1]) == (0, [0, 2, 0, 2, 7], [0, 0, 1, 1, 7]));
-    assert!(rt; split_two(&Or, 0, [2, 2, 2, 1]) == (0, [2, 2, 2, 2, 7], [2, 2, 1, 1, 7]));
-    assert!(rt; split_two(&Xor, 0, [2, 1, 0, 1]) == (0, [0, 1, 0, 1, 7], [0, 0, 0, 0, 7]));
-    assert!(rt; split_two(&Opposite(Or), 0, [0, 1, 1, 1]) == (20, [7; 5], [7; 5]));
+    assert!(rt; split_two(&Or, 0, [0, 2, 2, 1]) == (Ok(()), [0, 2, 0, 2, 7], [0, 0, 1, 1, 7]));
+    assert!(rt; split_two(&Or, 0, [2, 2, 2, 1]) == (Ok(()), [2, 2, 2, 2, 7], [2, 2, 1, 1, 7]));
+    assert!(rt; split_two(&Xor, 0, [2, 1, 0, 1]) == (Ok(()), [0, 1, 0, 1, 7], [0, 0, 0, 0, 7]));
+    assert!(rt; split_two(&Opposite(Or), 0, [0, 1, 1, 1]) == (Err(20), [7; 5], [7; 5]));
 }
 
 #[test]
@@ -113,9 +116,9 @@ fn pairs_of_sets_end_at_sixteen(rt: HostRuntime) {
     assert_eq!(rt; most.count(), 16);
     assert_eq!(rt; gate_code(most.answers(15)), 6);
     assert_eq!(rt; gate_code(most.answers(16)), 0);
-    assert!(rt; split_two(&most, 15, [0, 1, 1, 0]) == (0, [0, 1, 0, 1, 7], [0, 0, 1, 1, 7]));
-    assert!(rt; split_two(&most, 14, [0, 1, 1, 0]) == (20, [7; 5], [7; 5]));
-    assert!(rt; split_two(&most, 16, [0, 1, 1, 0]) == (8, [7; 5], [7; 5]));
+    assert!(rt; split_two(&most, 15, [0, 1, 1, 0]) == (Ok(()), [0, 1, 0, 1, 7], [0, 0, 1, 1, 7]));
+    assert!(rt; split_two(&most, 14, [0, 1, 1, 0]) == (Err(20), [7; 5], [7; 5]));
+    assert!(rt; split_two(&most, 16, [0, 1, 1, 0]) == (Err(8), [7; 5], [7; 5]));
     let late = PairOf(Opposite(Or), LeftInverted(two));
     assert_eq!(rt; gate_code(late.answers(0)), 8);
     assert_eq!(rt; gate_code(late.answers(1)), 11);
