@@ -1,4 +1,5 @@
 // Questions about groups, gates, stacks and splits, put to the code itself: expected values are worked out by hand from the rules.
+use crate::refusing::is_refused;
 use gatesets::{GateSet, LeftInverted, LentRows, Opposite, PairOf, Request};
 use orset::Or;
 use std::test::Fail;
@@ -23,13 +24,7 @@ fn rows_that_ignore_a_group(rt: HostRuntime) {
 #[test]
 fn refusals_of_the_ignore_test(rt: HostRuntime) -> Result<(), Fail> {
     for (variables, number) in [(0, 1), (11, 1), (255, 1), (3, 2), (10, 2)] {
-        match ignores(&[true; 7], variables, 1) {
-            Ok(_) => return Err(Fail::new("the row is accepted")),
-            Err(refusal) => {
-                assert_eq!(rt; refusal.number(), number);
-                assert_eq!(rt; refusal.spot(), 0);
-            }
-        }
+        is_refused(&rt, ignores(&[true; 7], variables, 1), number, 0)?;
     }
     Ok(())
 }
@@ -69,11 +64,7 @@ fn codes_of_gates(rt: HostRuntime) {
 }
 
 // A split of a table of two variables, with a row that is one longer, under groups a and b: parts or the number of the refusal, and both part rows.
-fn split_two<S: GateSet>(
-    set: &S,
-    gate: u8,
-    codes: [u8; 4],
-) -> (Result<(), u8>, [u8; 5], [u8; 5]) {
+fn split_two<S: GateSet>(set: &S, gate: u8, codes: [u8; 4]) -> (Result<(), u8>, [u8; 5], [u8; 5]) {
     let ask = Request {
         variables: 2,
         gate,

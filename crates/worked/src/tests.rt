@@ -1,8 +1,9 @@
 // Questions about the dictionary, put to the code itself: expected values are worked out by hand from the layout.
+use crate::refusing::is_refused;
 use questions::{Form, read_entry, write_entry};
 use std::process::Abort;
 use std::test::Fail;
-use tables::{Refusal, table_in};
+use tables::table_in;
 
 // The entry at a byte number is refused with a number and a spot, and the row is left.
 fn refused(
@@ -15,13 +16,7 @@ fn refused(
 ) -> Result<(), Fail> {
     let mut row = [7; 16];
     let room = room.min(16);
-    match read_entry(file, at, &mut row[0..room]) {
-        Ok(_) => return Err(Fail::new("the entry is accepted")),
-        Err(fault) => {
-            assert_eq!(rt; fault.number(), number);
-            assert_eq!(rt; fault.spot(), spot);
-        }
-    }
+    is_refused(rt, read_entry(file, at, &mut row[0..room]), number, spot)?;
     assert!(rt; row == [7; 16]);
     Ok(())
 }
@@ -74,13 +69,8 @@ fn unwritten(
 ) -> Result<(), Fail> {
     let mut out = [9; 8];
     let room = room.min(8);
-    match write_entry(variables, codes, &mut out[0..room]) {
-        Ok(_) => return Err(Fail::new("the table is accepted")),
-        Err(fault) => {
-            assert_eq!(rt; fault.number(), number);
-            assert_eq!(rt; fault.spot(), spot);
-        }
-    }
+    let answer = write_entry(variables, codes, &mut out[0..room]);
+    is_refused(rt, answer, number, spot)?;
     assert!(rt; out == [9; 8]);
     Ok(())
 }
