@@ -2,4 +2,3 @@ pub mod Marks
 pub mod Laying
 pub mod OrKept
 pub mod OrRows
-pub mod Writing

@@ -1,6 +1,6 @@
 -- What the rule of OR says of a table: it refuses exactly a table without a pair, and its rows are parts.
 use Rattle.std.proofs.Common.{◌≡◌, ℕ, ◌^◌, ◌<◌, ◌≤◌, Bool, true, false, not, ◌&&◌, ◌||◌, eqb, ◌⊎◌, List, sym, refl, ap, ◌∙◌, subst, ap₂, inl, inr, arith}
-use Rattle.std.proofs.lemmas.Bool.{and_parts, both_ways, cases_Bool, eq-eqb, eqb-true, or_from, or_left, or_parts, or_right}
+use Rattle.std.proofs.lemmas.Bool.{and_parts, both_ways, cases_Bool, eq-eqb, eqb-true, not-false, not-true, or_from, or_left, or_parts, or_right}
 use Rattle.tables.specs.Groups.{clear, within}
 use Rattle.tables.specs.Tables.{Allows}
 use Rattle.tables.proofs.Bounded.{itself, some_decides}
@@ -11,12 +11,8 @@ use Rattle.gatesets.specs.Rules.{no_pair, two_parts}
 use Rattle.gatesets.specs.Splits.{Pair, Parts, code}
 use Rattle.gatesets.proofs.CodeRows.{codes_parts, joined_of, ruled_none, ruled_parts}
 use Rattle.orset.specs.Or.{OrGives, code_by, lower_left, lower_right, or_gate, or_left_code, or_none, or_right_code, or_rule, upper}
-use Rattle.orset.specs.Cells.{fails_at, left_one_at, right_one_at, zero_at}
-
--- the truth values that the rule asks for
-not-false : (b : Bool) → not b ≡ true → b ≡ false
-not-false true e = absurd (both_ways false refl e)
-not-false false e = refl
+use Rattle.orset.proofs.Marks.{fails_at, left_one_at, right_one_at, zero_at}
+use Rattle.orset.proofs.Laying.{may_where_must, none_at}
 
 -- a test that finds a code 1 where neither part may be 1
 three : (a b c : Bool) → a && (not b && not c) ≡ true → (a ≡ true) × (b ≡ false) × (c ≡ false)
@@ -49,43 +45,15 @@ module _ (n : ℕ) (t : ℕ → ℕ) (l r : ℕ) where
   -- a function that ignores g and is 0 at every code 0 is 0 wherever the part may not be 1
   under : (g : ℕ) (f : ℕ → Bool) → SameCleared n g f → ((j : ℕ) → j < 2 ^ n → t j ≡ 0 → f j ≡ false)
       → (i : ℕ) → i < 2 ^ n → upper (2 ^ n) t g i ≡ false → f i ≡ false
-  under g f same zero i hi barred = found ((within_decides (2 ^ n) g (zero_at t) i).0 (holds_not _ barred))
+  under g f same zero i hi barred = found ((within_decides (2 ^ n) g (zero_at t) i).0 (not-false _ barred))
     where
-      holds_not : (b : Bool) → not b ≡ false → b ≡ true
-      holds_not true e = refl
-      holds_not false e = absurd (both_ways true e refl)
-
       found : Within (2 ^ n) g (zero_at t) i → f i ≡ false
       found (j, hj, (e, z)) = same i j hi hj e ∙ zero j hj (eqb-true _ _ z)
 
   module _ (stands : or_none (2 ^ n) t l r ≡ false) where
-    -- each code 1 is where one of the parts may be 1
-    bounded : (i : ℕ) → i < 2 ^ n → t i ≡ 1 → (upper (2 ^ n) t r i ≡ true) ⊎ (upper (2 ^ n) t l i ≡ true)
-    bounded i hi one =
-        elim (cases_Bool (upper (2 ^ n) t r i)) [
-          | inl a ↦ inl a
-          | inr a ↦ elim (cases_Bool (upper (2 ^ n) t l i)) [
-            | inl b ↦ inr b
-            | inr b ↦
-                absurd
-                (both_ways _ stands ((some_decides (fails_at (2 ^ n) t l r) (λ k. fails_at (2 ^ n) t l r k ≡ true) (λ k. itself _) (2 ^ n)).1 (i, hi, fails i one a b)))
-          ]
-        ]
-      where
-        fails : (i : ℕ) → t i ≡ 1 → upper (2 ^ n) t r i ≡ false → upper (2 ^ n) t l i ≡ false → fails_at (2 ^ n) t l r i ≡ true
-        fails i one a b = rw (one, a, b) refl
-
     -- the left part must be 1 only where it may
-    left_under : (i : ℕ) → i < 2 ^ n → lower_left (2 ^ n) t l r i ≡ true → upper (2 ^ n) t r i ≡ true
-    left_under i hi h = found ((within_decides (2 ^ n) r (left_one_at (2 ^ n) t l) i).0 h)
-      where
-        found : Within (2 ^ n) r (left_one_at (2 ^ n) t l) i → upper (2 ^ n) t r i ≡ true
-        found (j, hj, (e, both)) =
-            let parts = and_parts (eqb (t j) 1) (not (upper (2 ^ n) t l j)) both in
-            elim (bounded j hj (eqb-true _ _ parts.0)) [
-              | inl u ↦ upper_same r i j e ∙ u
-              | inr u ↦ absurd (both_ways _ (not-false _ parts.1) u)
-            ]
+    left_under : (i : ℕ) → lower_left (2 ^ n) t l r i ≡ true → upper (2 ^ n) t r i ≡ true
+    left_under i must = may_where_must (2 ^ n) t l r (2 ^ n) i stands must
 
     -- and the right part
     right_under : (i : ℕ) → i < 2 ^ n → lower_right (2 ^ n) t l r i ≡ true → upper (2 ^ n) t l i ≡ true
@@ -98,14 +66,14 @@ module _ (n : ℕ) (t : ℕ → ℕ) (l r : ℕ) where
               | inl u ↦ upper_same l i j e ∙ u
               | inr u ↦
                   let must : lower_left (2 ^ n) t l r j ≡ true = within_here (2 ^ n) r (left_one_at (2 ^ n) t l) j hj (rw (parts.0, u) refl) in
-                  absurd (both_ways _ (not-false _ parts.1) must)
+                  absurd (both_ways _ (not-true _ parts.1) must)
             ]
 
     -- the rows join to what the table allows
     rows_join : (i : ℕ) → i < 2 ^ n → (u v : Bool) → Allows (or_left_code (2 ^ n) t l r i) u → Allows (or_right_code (2 ^ n) t l r i) v → Allows (t i) (u || v)
     rows_join i hi u v a b = (
       λ c.
-          or_from u v (a.0 (code_zero _ _ (left_under i hi) (upper_zero r i hi c)))
+          or_from u v (a.0 (code_zero _ _ (left_under i) (upper_zero r i hi c)))
           (b.0 (code_zero _ _ (right_under i hi) (upper_zero l i hi c))),
       λ c.
           elim (cases_Bool (lower_left (2 ^ n) t l r i)) [
