@@ -1,13 +1,17 @@
 -- What the codes of the cells say, while the ones are laid over the zeros.
-use Rattle.std.proofs.Common.{◌≡◌, ℕ, ◌+◌, ◌<◌, Bool, true, false, cond, not, ◌&&◌, eqb, ◌⊎◌, sym, refl, ap, ◌∙◌, set, inl, inr, add-one, arith}
-use Rattle.std.proofs.lemmas.Bool.{and_parts, and_right, both_ways, cases_Bool, eq-eqb, false_from_ne_true, ne_eqb}
+use Rattle.std.proofs.Common.{◌≡◌, ℕ, ◌+◌, ◌<◌, Bool, true, false, cond, not, ◌&&◌, eqb, ◌⊎◌, Decides, refl, ap, ◌∙◌, set, inl, inr, add-one, arith}
+use Rattle.std.proofs.lemmas.Bool.{and_right, both_ways, eq-eqb, false_from_ne_true, ne_eqb}
 use Rattle.tables.specs.Groups.{clear, some, within}
 use Rattle.tables.proofs.Bounded.{itself, some_decides}
 use Rattle.tables.proofs.Within.{within_decides, within_same}
 use Rattle.orset.specs.declared.cells.Cells.{Cells}
 use Rattle.orset.specs.Cells.{Hold}
-use Rattle.orset.specs.Or.{code_by, lower_left, or_left_code, or_none, upper}
+use Rattle.orset.specs.Or.{code_by, or_left_code, or_none, upper}
 use Rattle.orset.proofs.Marks.{Marked, fails_at, left_one_at, mark_kept, mark_more, marks_all, right_one_at, zero_at}
+
+-- a test finds some number below m exactly where one passes
+pub some_is : (p : ℕ → Bool) (m : ℕ) → Decides (some m p) ((k : ℕ) × (k < m) × (p k ≡ true))
+some_is p m = some_decides p (λ k. p k ≡ true) (λ k. itself (p k)) m
 
 -- a code 0 where no 1 is laid yet, and any other code there
 zero_from : (u : Bool) → ◌≡◌ {A = ℕ} (cond u 2 0) 0 → u ≡ false
@@ -45,9 +49,8 @@ inner_false false b c e = refl
 
 module _ (m : ℕ) (t : ℕ → ℕ) (l r : ℕ) where
   -- neither part may be 1 at a code 1: there is no pair
-  pub none_at : (i : ℕ) → i < m → t i ≡ 1 → upper m t r i ≡ false → upper m t l i ≡ false → or_none m t l r ≡ true
-  none_at i below one no_r no_l =
-      (some_decides (fails_at m t l r) (λ j. fails_at m t l r j ≡ true) (λ j. itself _) m).1 (i, below, rw (one, no_r, no_l) refl)
+  none_at : (i : ℕ) → i < m → t i ≡ 1 → upper m t r i ≡ false → upper m t l i ≡ false → or_none m t l r ≡ true
+  none_at i below one no_r no_l = (some_is (fails_at m t l r) m).1 (i, below, rw (one, no_r, no_l) refl)
 
   -- where the left part must be 1 by the first k assignments, none of which fails, it may be 1
   pub may_where_must : (k i : ℕ) → some k (fails_at m t l r) ≡ false → within k r (left_one_at m t l) i ≡ true → upper m t r i ≡ true
@@ -60,8 +63,7 @@ module _ (m : ℕ) (t : ℕ → ℕ) (l r : ℕ) where
       stands false b c e f = absurd (both_ways false refl e)
 
       passed : (j : ℕ) → j < k → fails_at m t l r j ≡ false
-      passed j before =
-          false_from_ne_true _ (λ e. both_ways _ none ((some_decides (fails_at m t l r) (λ j. fails_at m t l r j ≡ true) (λ j. itself _) k).1 (j, before, e)))
+      passed j before = false_from_ne_true _ (λ fails. both_ways _ none ((some_is (fails_at m t l r) k).1 (j, before, fails)))
 
       found : (j : ℕ) × (j < k) × ((clear r i ≡ clear r j) × (left_one_at m t l j ≡ true)) → upper m t r i ≡ true
       found (j, before, (same, one)) =
@@ -87,9 +89,9 @@ module _ (m : ℕ) (t : ℕ → ℕ) (l r : ℕ) where
   left_free k lefts other = left_kept k lefts (and_right (eqb (t k) 1) _ (ap not (free_from _ other)))
 
   -- the left cell is 0 where the right part must be 0 at a code 1: there is no pair
-  pub left_fails : (k : ℕ) (lefts : Cells) → k < m → t k ≡ 1 → ◌≡◌ {A = ℕ} (cond (upper m t l k) 2 0) 0 → code_by (within k r (left_one_at m t l) k) (upper m t r k) ≡ 0
+  pub left_fails : (k : ℕ) → k < m → t k ≡ 1 → ◌≡◌ {A = ℕ} (cond (upper m t l k) 2 0) 0 → code_by (within k r (left_one_at m t l) k) (upper m t r k) ≡ 0
       → or_none m t l r ≡ true
-  left_fails k lefts below one zero left_zero = none_at k below one (under_from _ _ left_zero) (zero_from _ zero)
+  left_fails k below one zero left_zero = none_at k below one (under_from _ _ left_zero) (zero_from _ zero)
 
   -- any other code there: a 1 is laid, and the assignment does not fail
   pub left_laid : (k : ℕ) (lefts lefts' : Cells) → k < m → t k ≡ 1 → ◌≡◌ {A = ℕ} (cond (upper m t l k) 2 0) 0 → (code_by (within k r (left_one_at m t l) k) (upper m t r k) ≡ 0 → ⊥)

@@ -1,9 +1,8 @@
 -- What the rule of OR says of a table: it refuses exactly a table without a pair, and its rows are parts.
-use Rattle.std.proofs.Common.{◌≡◌, ℕ, ◌^◌, ◌<◌, ◌≤◌, Bool, true, false, not, ◌&&◌, ◌||◌, eqb, ◌⊎◌, List, sym, refl, ap, ◌∙◌, subst, ap₂, inl, inr, arith}
+use Rattle.std.proofs.Common.{◌≡◌, ℕ, ◌^◌, ◌<◌, ◌≤◌, Bool, true, false, not, ◌&&◌, ◌||◌, eqb, List, sym, refl, ap, ◌∙◌, subst, ap₂, inl, inr, arith}
 use Rattle.std.proofs.lemmas.Bool.{and_parts, both_ways, cases_Bool, eq-eqb, eqb-true, not-false, not-true, or_from, or_left, or_parts, or_right}
 use Rattle.tables.specs.Groups.{clear, within}
 use Rattle.tables.specs.Tables.{Allows}
-use Rattle.tables.proofs.Bounded.{itself, some_decides}
 use Rattle.tables.proofs.Clearing.{SameCleared, agree_decides, ignores_cleared}
 use Rattle.tables.proofs.Within.{Within, within_decides, within_here, within_same, within_still}
 use Rattle.gatesets.specs.declared.request.Request.{Request}
@@ -12,14 +11,7 @@ use Rattle.gatesets.specs.Splits.{Pair, Parts, code}
 use Rattle.gatesets.proofs.CodeRows.{codes_parts, joined_of, ruled_none, ruled_parts}
 use Rattle.orset.specs.Or.{OrGives, code_by, lower_left, lower_right, or_gate, or_left_code, or_none, or_right_code, or_rule, upper}
 use Rattle.orset.proofs.Marks.{fails_at, left_one_at, right_one_at, zero_at}
-use Rattle.orset.proofs.Laying.{may_where_must, none_at}
-
--- a test that finds a code 1 where neither part may be 1
-three : (a b c : Bool) → a && (not b && not c) ≡ true → (a ≡ true) × (b ≡ false) × (c ≡ false)
-three true false false e = (refl, refl, refl)
-three true true c e = absurd (both_ways false refl e)
-three true false true e = absurd (both_ways false refl e)
-three false b c e = absurd (both_ways false refl e)
+use Rattle.orset.proofs.Laying.{may_where_must, some_is}
 
 -- a code is one of a table
 code_small : (lower upper : Bool) → code_by lower upper ≤ 2
@@ -119,18 +111,19 @@ module _ (ask : Request) (table : List ℕ) where
 
   -- a table that the rule refuses has no pair
   pub or_refused : or_rule ask table ≡ no_pair → Pair or_gate ask table → ⊥
-  or_refused e p = found ((some_decides (fails_at (2 ^ n) t l r) (λ k. fails_at (2 ^ n) t l r k ≡ true) (λ k. itself _) (2 ^ n)).0 (ruled_none _ _ _ e))
+  or_refused e p = found ((some_is (fails_at (2 ^ n) t l r) (2 ^ n)).0 (ruled_none _ _ _ e))
     where
       allowed : (i : ℕ) → i < 2 ^ n → Allows (t i) (p.first i || p.second i)
       allowed i hi = subst (Allows (t i)) (joined_of ◌||◌ (p.first i) (p.second i)) (p.admitted i hi)
 
       found : (i : ℕ) × (i < 2 ^ n) × (fails_at (2 ^ n) t l r i ≡ true) → ⊥
       found (i, hi, fails) =
-          let (one, no_r, no_l) = three (eqb (t i) 1) (upper (2 ^ n) t r i) (upper (2 ^ n) t l i) fails in
+          let (one, neither) = and_parts _ _ fails in
+          let (no_r, no_l) = and_parts _ _ neither in
           let first : p.first i ≡ false =
-          under n t l r r p.first (ignores_cleared n r p.first p.first_ignores) (λ j hj c. (or_parts _ _ ((allowed j hj).0 c)).0) i hi no_r in
+          under n t l r r p.first (ignores_cleared n r p.first p.first_ignores) (λ j hj c. (or_parts _ _ ((allowed j hj).0 c)).0) i hi (not-true _ no_r) in
           let second : p.second i ≡ false =
-          under n t l r l p.second (ignores_cleared n l p.second p.second_ignores) (λ j hj c. (or_parts _ _ ((allowed j hj).0 c)).1) i hi no_l in
+          under n t l r l p.second (ignores_cleared n l p.second p.second_ignores) (λ j hj c. (or_parts _ _ ((allowed j hj).0 c)).1) i hi (not-true _ no_l) in
           both_ways _ (or_from _ _ first second) ((allowed i hi).1 (eqb-true _ _ one))
 
   -- the two parts of the rule

@@ -1,14 +1,14 @@
 -- The rows that are written from the cells are those of the rule.
-use Rattle.std.proofs.Common.{◌≡◌, ℕ, ◌^◌, ◌<◌, true, false, List, map, length, slice_index, sym, refl, ap, ◌∙◌, subst, ap₂, arith}
+use Rattle.std.proofs.Common.{◌≡◌, ℕ, ◌^◌, false, List, map, length, slice_index, sym, ap, ◌∙◌, ap₂}
 use Rattle.std.specs.List.{range_with_len}
 use Rattle.tables.specs.Groups.{clear}
 use Rattle.gatesets.specs.declared.request.Request.{Request}
-use Rattle.gatesets.specs.Rules.{codes, no_pair, ruled, two_parts}
+use Rattle.gatesets.specs.Rules.{codes, two_parts}
 use Rattle.gatesets.specs.Splits.{code}
 use Rattle.gatesets.proofs.CodeRows.{codes_same}
 use Rattle.orset.specs.declared.cells.Cells.{Cells}
-use Rattle.orset.specs.Cells.{Hold, LeftLaid, RightLaid}
-use Rattle.orset.specs.Or.{or_left_code, or_none, or_right_code, or_rule}
+use Rattle.orset.specs.Cells.{Hold, LeftLaid, RightLaid, lacks_pair}
+use Rattle.orset.specs.Or.{or_left_code, or_right_code, or_rule}
 
 -- a row written from the cells
 abbrev pub written : Cells → ℕ → List ℕ
@@ -21,7 +21,7 @@ written_codes n k g f cells size h =
 
 -- the rule gives the rows that are written
 pub parts_by : (ask : Request) (table : List ℕ) (lefts rights : Cells) (l r a b : ℕ) → length table ≡ 2 ^ ask.variables → l ≡ ask.left → r ≡ ask.right
-    → a ≡ length table → b ≡ length table → or_none (length table) (code table) l r ≡ false → LeftLaid table l r lefts → RightLaid table l lefts.ignored rights
+    → a ≡ length table → b ≡ length table → lacks_pair table l r ≡ false → LeftLaid table l r lefts → RightLaid table l lefts.ignored rights
     → or_rule ask table ≡ two_parts (written lefts a) (written rights b)
 parts_by ask table lefts rights l r a b size left_group right_group left_long right_long stands in_lefts in_rights =
     let stands' = rw (size, left_group, right_group) at stands in

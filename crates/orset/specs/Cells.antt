@@ -1,9 +1,9 @@
 -- What the cells of a part hold after each pass. A cell is an assignment cleared of the group that the part ignores.
-use Rattle.std.specs.Prelude.{◌≡◌, ℕ, ◌<◌, if◌then◌else◌, List, length, slice_index}
+use Rattle.std.specs.Prelude.{◌≡◌, ℕ, ◌<◌, Bool, if◌then◌else◌, List, length, slice_index}
 use Rattle.tables.specs.Groups.{clear}
 use Rattle.gatesets.specs.Splits.{code}
 use Rattle.orset.specs.declared.cells.Cells.{Cells}
-use Rattle.orset.specs.Or.{or_left_code, or_right_code, upper}
+use Rattle.orset.specs.Or.{or_left_code, or_none, or_right_code, upper}
 
 -- the cells of a part that ignores the group g, as many as there are assignments m, hold the code f i at the cell of each assignment i
 pub record Hold (m g : ℕ) (f : ℕ → ℕ) (cells : Cells) : Type 0 where
@@ -26,3 +26,7 @@ LeftLaid table l r cells = Hold (length table) r (or_left_code (length table) (c
 -- the right cells have the codes of the right part
 abbrev pub RightLaid : List ℕ → ℕ → ℕ → Cells → Type 0
 RightLaid table l r cells = Hold (length table) l (or_right_code (length table) (code table) l r) cells
+
+-- whether the table has no pair
+abbrev pub lacks_pair : List ℕ → ℕ → ℕ → Bool
+lacks_pair table l r = or_none (length table) (code table) l r

@@ -1,8 +1,7 @@
-ghost use Rattle.std.specs.Prelude.{◌≡◌, ◌^◌, true, false, length, MatchResult, OnOk, OnErr, IsTrue};
+ghost use Rattle.std.specs.Prelude.{◌≡◌, ◌^◌, ◌↔◌, length, IsErr, IsTrue, MatchResult, OnOk};
 ghost use Rattle.gatesets.specs.Rules.{no_pair, two_parts};
-ghost use Rattle.gatesets.specs.Splits.{code};
-ghost use Rattle.orset.specs.Cells.{AllFree, LeftLaid, RightLaid, ZerosLaid};
-ghost use Rattle.orset.specs.Or.{or_none, or_rule};
+ghost use Rattle.orset.specs.Cells.{AllFree, LeftLaid, RightLaid, ZerosLaid, lacks_pair};
+ghost use Rattle.orset.specs.Or.{or_rule};
 
 use super::cells::Cells;
 use gatesets::{NoPair, Request};
@@ -52,9 +51,8 @@ fn lay_zeros(table: &[u8], lefts: &mut Cells, rights: &mut Cells)
 fn lay_left_ones(table: &[u8], lefts: &mut Cells, rights: &Cells) -> Result<(), NoPair>
     requires lefts { ZerosLaid table.now lefts.old.ignored lefts.old }
     requires rights { ZerosLaid table.now rights.now.ignored rights.now }
+    ensures pair { IsErr result ↔ IsTrue (lacks_pair table.now rights.now.ignored lefts.old.ignored) }
     ensures laid { OnOk result (LeftLaid table.now rights.now.ignored lefts.old.ignored lefts.new) }
-    ensures pair { OnOk result (or_none (length table.now) (code table.now) rights.now.ignored lefts.old.ignored ≡ false) }
-    ensures none { OnErr result (or_none (length table.now) (code table.now) rights.now.ignored lefts.old.ignored ≡ true) }
 {
     for (index, code) in table.iter().enumerate() {
         if *code == 1 && rights.code(index) == 0 {

@@ -35,10 +35,13 @@ loop-index-preserved c =
 pub returns-clause-laid : goal.returns-clause-laid
 returns-clause-laid c = marks_all _ _ _ _ _ c.loop-index.index c.loop-index.lefts (omega arith) c.loop-index.invariant.laid
 
-pub returns-then-code-eq0-2-clause-none : goal.returns-then-code-eq0-2-clause-none
-returns-then-code-eq0-2-clause-none c =
+pub returns-then-code-eq0-2-clause-pair : goal.returns-then-code-eq0-2-clause-pair
+returns-then-code-eq0-2-clause-pair c =
     let i = c.loop-index.index in
-    let below = c.loop-index-test.true in
-    left_fails (length c.args.table.now) (code c.args.table.now) c.args.rights.now.ignored c.args.lefts.now.ignored i c.loop-index.lefts below c.if-code-eq1.true
-    (code_held _ _ _ _ c.requires.rights i _ below c.code.ensures.code ∙ c.if-code-eq0.true)
-    (code_held _ _ _ _ c.loop-index.invariant.laid.held i _ below c.code-then-code-eq0.ensures.code ∙ c.if-code-eq0-2.true)
+    let below = c.loop-index-test.true in (
+      λ _.
+          left_fails (length c.args.table.now) (code c.args.table.now) c.args.rights.now.ignored c.args.lefts.now.ignored i below c.if-code-eq1.true
+          (code_held _ _ _ _ c.requires.rights i _ below c.code.ensures.code ∙ c.if-code-eq0.true)
+          (code_held _ _ _ _ c.loop-index.invariant.laid.held i _ below c.code-then-code-eq0.ensures.code ∙ c.if-code-eq0-2.true),
+      λ _. refl,
+    )

@@ -1,8 +1,8 @@
 -- A code 1 where the left part need not be 1 lays its right cell, any other leaves the cells.
-use Rattle.std.proofs.Common.{sym, ◌∙◌, length, arith}
+use Rattle.std.proofs.Common.{sym, ◌∙◌, length}
 use Rattle.gatesets.specs.Splits.{code}
 use Rattle.orset.proofs.Laying.{right_free, right_laid, right_passed}
-use Rattle.orset.proofs.Marks.{code_held, marks_all}
+use Rattle.orset.proofs.Marks.{code_held}
 use Rattle.orset.proofs.parts.lay_right_ones.Goals as goal
 
 pub loop-index-init : goal.loop-index-init

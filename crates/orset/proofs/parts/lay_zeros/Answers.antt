@@ -1,7 +1,7 @@
 -- A code 0 lays its two cells, any other code leaves the cells.
-use Rattle.std.proofs.Common.{length, arith}
+use Rattle.std.proofs.Common.{length}
 use Rattle.gatesets.specs.Splits.{code}
-use Rattle.orset.proofs.Laying.{zero_laid, zero_passed, zeros_all}
+use Rattle.orset.proofs.Laying.{zero_laid, zero_passed}
 use Rattle.orset.proofs.parts.lay_zeros.Goals as goal
 
 pub loop-index-init : goal.loop-index-init

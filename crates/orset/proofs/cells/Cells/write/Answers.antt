@@ -1,7 +1,6 @@
 -- The last turn has passed every assignment.
 use Rattle.std.proofs.Common.{arith}
 use Rattle.std.proofs.lemmas.List.FromFn.{fill_by_all}
-use Rattle.tables.specs.Groups.{clear}
 use Rattle.orset.proofs.cells.Cells.write.Goals as goal
 
 pub returns : goal.returns
