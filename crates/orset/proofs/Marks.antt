@@ -12,10 +12,11 @@ use Rattle.orset.specs.Or.{upper, lower_left}
 abbrev pub zero_at : (ℕ → ℕ) → ℕ → Bool
 zero_at t i = eqb (t i) 0
 
--- one that makes its left cell 1, and one that makes its right cell 1
+-- one that makes its left cell 1
 abbrev pub left_one_at : ℕ → (ℕ → ℕ) → ℕ → ℕ → Bool
 left_one_at m t l i = eqb (t i) 1 && not (upper m t l i)
 
+-- one that makes its right cell 1
 abbrev pub right_one_at : ℕ → (ℕ → ℕ) → ℕ → ℕ → ℕ → Bool
 right_one_at m t l r i = eqb (t i) 1 && not (lower_left m t l r i)
 

@@ -15,9 +15,13 @@ pub record Hold (m g : ℕ) (f : ℕ → ℕ) (cells : Cells) : Type 0 where
 abbrev pub AllFree : List ℕ → Cells → Type 0
 AllFree table cells = Hold (length table) cells.ignored (λ _. 2) cells
 
--- a cell is 0 where the part may not be 1, and free elsewhere
+-- a code of a part that ignores the group g, before any 1 is laid: 0 where the part may not be 1, free elsewhere
+abbrev pub zero_code : ℕ → (ℕ → ℕ) → ℕ → ℕ → ℕ
+zero_code m t g i = if upper m t g i then 2 else 0
+
+-- the cells have these codes
 abbrev pub ZerosLaid : List ℕ → ℕ → Cells → Type 0
-ZerosLaid table g cells = Hold (length table) g (λ i. if upper (length table) (code table) g i then 2 else 0) cells
+ZerosLaid table g cells = Hold (length table) g (zero_code (length table) (code table) g) cells
 
 -- the left cells have the codes of the left part
 abbrev pub LeftLaid : List ℕ → ℕ → ℕ → Cells → Type 0

@@ -7,9 +7,9 @@ use tables::clear_group;
 // The code of a cell that may be 0 or 1.
 const FREE: u16 = 2;
 
-// The cells of a part: a code for each assignment that is cleared of the group that the part ignores.
+// The cells of a part: a code from 0 to 2 for each assignment that is cleared of the group that the part ignores.
 #[derive(Drop)]
-pub struct Cells<'a> {
+pub(crate) struct Cells<'a> {
     ignored: u16,
     codes: &'a mut [u16],
     ghost small: { (c : ℕ) → c < length codes.now → slice_index codes.now c ≤ 2 },
@@ -17,7 +17,7 @@ pub struct Cells<'a> {
 
 impl<'a> Cells<'a> {
     // The cells of a part that ignores this group, all free.
-    pub fn free(ignored: u16, codes: &'a mut [u16]) -> Cells<'a>
+    pub(crate) fn free(ignored: u16, codes: &'a mut [u16]) -> Cells<'a>
         ensures group { result.ignored ≡ ignored }
         ensures codes { result.codes.now ≡ replicate (length codes.old) 2 }
     {
@@ -26,7 +26,7 @@ impl<'a> Cells<'a> {
     }
 
     // The code at the cell of an assignment.
-    pub fn code(&self, index: usize) -> u16
+    pub(crate) fn code(&self, index: usize) -> u16
         requires { index < length self.now.codes.now }
         ensures code { result ≡ slice_index self.now.codes.now (clear self.now.ignored index) }
         ensures small { result ≤ 2 }
@@ -35,7 +35,7 @@ impl<'a> Cells<'a> {
     }
 
     // Lays a code at the cell of an assignment.
-    pub fn lay(&mut self, index: usize, code: u16)
+    pub(crate) fn lay(&mut self, index: usize, code: u16)
         requires inside { index < length self.old.codes.now }
         requires code { code ≤ 2 }
         ensures group { self.new.ignored ≡ self.old.ignored }
@@ -45,7 +45,7 @@ impl<'a> Cells<'a> {
     }
 
     // Gives every assignment the code of its cell.
-    pub fn write(&self, part: &mut [u8])
+    pub(crate) fn write(&self, part: &mut [u8])
         requires { length self.now.codes.now ≡ length part.old }
         ensures { part.new ≡ map (λ i. slice_index self.now.codes.now (clear self.now.ignored i)) (range_with_len 0 (length part.old)) }
     {

@@ -7,7 +7,7 @@ use super::cells::Cells;
 use gatesets::{NoPair, Request};
 
 // Writes the parts of a table, or tells that it has no pair. All rows have one entry for each assignment.
-pub fn write_parts(
+pub(crate) fn write_parts(
     ask: Request,
     table: &[u8],
     left: &mut [u8],
@@ -47,7 +47,7 @@ fn lay_zeros(table: &[u8], lefts: &mut Cells, rights: &mut Cells)
     }
 }
 
-// Lays 1 at the left cell of each code 1 at which the right part must be 0; no pair where the left part must be 0 there too.
+// Lays 1 at the left cell of each code 1 at which the right part must be 0; there is no pair where the left part must be 0 there too.
 fn lay_left_ones(table: &[u8], lefts: &mut Cells, rights: &Cells) -> Result<(), NoPair>
     requires lefts { ZerosLaid table.now lefts.old.ignored lefts.old }
     requires rights { ZerosLaid table.now rights.now.ignored rights.now }

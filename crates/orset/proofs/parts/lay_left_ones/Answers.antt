@@ -5,9 +5,6 @@ use Rattle.orset.proofs.Laying.{left_fails, left_free, left_laid, left_passed}
 use Rattle.orset.proofs.Marks.{code_held, marks_all}
 use Rattle.orset.proofs.parts.lay_left_ones.Goals as goal
 
-pub loop-index-init : goal.loop-index-init
-loop-index-init c = record { laid = record { held = c.requires.lefts }; none = refl }
-
 pub loop-index-preserved : goal.loop-index-preserved
 loop-index-preserved c =
     let m = length c.args.table.now in

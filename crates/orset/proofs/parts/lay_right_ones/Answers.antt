@@ -5,9 +5,6 @@ use Rattle.orset.proofs.Laying.{right_free, right_laid, right_passed}
 use Rattle.orset.proofs.Marks.{code_held}
 use Rattle.orset.proofs.parts.lay_right_ones.Goals as goal
 
-pub loop-index-init : goal.loop-index-init
-loop-index-init c = record { held = c.requires.rights }
-
 pub loop-index-preserved : goal.loop-index-preserved
 loop-index-preserved c =
     let m = length c.args.table.now in

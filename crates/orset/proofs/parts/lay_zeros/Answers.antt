@@ -4,9 +4,6 @@ use Rattle.gatesets.specs.Splits.{code}
 use Rattle.orset.proofs.Laying.{zero_laid, zero_passed}
 use Rattle.orset.proofs.parts.lay_zeros.Goals as goal
 
-pub loop-index-init : goal.loop-index-init
-loop-index-init c = record { lefts = record { held = c.requires.lefts }; rights = record { held = c.requires.rights } }
-
 pub loop-index-preserved : goal.loop-index-preserved
 loop-index-preserved c =
     let m = length c.args.table.now in
