@@ -37,6 +37,7 @@ impl GateSet for Or {
         }
     }
 
+    #[tactic(auto, using(crate::proofs::OrEnds::ends_none, crate::proofs::OrEnds::ends_parts))]
     fn split(
         &self,
         ask: Request,
@@ -52,15 +53,14 @@ impl GateSet for Or {
         let Some(points) = points(ask.variables) else {
             return Err(SplitRefusal::Variables);
         };
-        let parted = write_parts(
+        write_parts(
             ask,
             &table[0..points],
             &mut left[0..points],
             &mut right[0..points],
             &mut first[0..points],
             &mut second[0..points],
-        );
-        parted?;
+        )?;
         Ok(())
     }
 }
