@@ -1,154 +1,141 @@
 -- What the codes of the cells say, while the ones are laid over the zeros.
-use Rattle.std.proofs.Common.{◌≡◌, ℕ, ◌+◌, ◌<◌, Bool, true, false, cond, not, ◌&&◌, eqb, ◌⊎◌, List, length, get_or, set, sym, refl, ap, ◌∙◌, inl, inr, add-one, arith}
-use Rattle.std.proofs.lemmas.Bool.{cases_Bool, both_ways, eqb-true, ne_eqb, and_parts}
-use Rattle.tables.specs.Groups.{clear, some}
-use Rattle.tables.proofs.Bounded.{some_decides, itself}
-use Rattle.tables.proofs.Clearing.{clear_le}
-use Rattle.orset.specs.Or.{upper, lower_left, or_none}
-use Rattle.orset.proofs.Marks.{turn_kept, turn_more}
-use Rattle.orset.specs.Cells.{Marked, fails_at, holds, left_one_at, right_one_at, zero_at, zeros_laid}
+use Rattle.std.proofs.Common.{◌≡◌, ℕ, ◌+◌, ◌<◌, Bool, true, false, cond, not, ◌&&◌, eqb, ◌⊎◌, Decides, refl, ap, ◌∙◌, set, inl, inr, add-one, arith}
+use Rattle.std.proofs.lemmas.Bool.{and_right, both_ways, eq-eqb, false_from_ne_true, ne_eqb}
+use Rattle.tables.specs.Groups.{clear, some, within}
+use Rattle.tables.proofs.Bounded.{itself, some_decides}
+use Rattle.tables.proofs.Within.{within_decides, within_same}
+use Rattle.orset.specs.declared.cells.Cells.{Cells}
+use Rattle.orset.specs.Cells.{zero_code}
+use Rattle.orset.specs.Or.{code_by, or_left_code, or_none, upper}
+use Rattle.orset.proofs.Marks.{Marked, fails_at, left_one_at, mark_kept, mark_more, right_one_at, zero_at}
 
--- one turn more that finds nothing
-pub some_more : (p : ℕ → Bool) (i : ℕ) → some i p ≡ false → p i ≡ false → some (i + 1) p ≡ false
-some_more p i e h = rw (add-one, h) e
+-- a test finds some number below m exactly where one passes
+pub some_is : (p : ℕ → Bool) (m : ℕ) → Decides (some m p) ((k : ℕ) × (k < m) × (p k ≡ true))
+some_is p m = some_decides p (λ k. p k ≡ true) (λ k. itself (p k)) m
 
--- what is found below m
-pub some_at : (p : ℕ → Bool) (m i : ℕ) → i < m → p i ≡ true → some m p ≡ true
-some_at p m i below e = (some_decides p (λ k. p k ≡ true) (λ k. itself (p k)) m).1 (i, below, e)
+-- a code 0 before any 1 is laid: the part may not be 1
+zero_from : (u : Bool) → ◌≡◌ {A = ℕ} (cond u 2 0) 0 → u ≡ false
+zero_from true e = absurd (omega arith)
+zero_from false e = refl
 
--- and what is not found holds of none
-some-not : (p : ℕ → Bool) (m i : ℕ) → i < m → some m p ≡ false → p i ≡ false
-some-not p m i below e =
-    elim (cases_Bool (p i)) [ inl h ↦ absurd (both_ways _ e (some_at p m i below h)) | inr h ↦ h ]
+-- any other code there: it may
+free_from : (u : Bool) → (◌≡◌ {A = ℕ} (cond u 2 0) 0 → ⊥) → u ≡ true
+free_from true e = refl
+free_from false e = absurd (e refl)
 
--- a code 0 among the zeros
-zero_from : (b : Bool) → ◌≡◌ {A = ℕ} (cond b 0 2) 0 → not b ≡ false
-zero_from true e = refl
-zero_from false e = absurd (omega arith)
-
--- and any other
-free_from : (b : Bool) → (◌≡◌ {A = ℕ} (cond b 0 2) 0 → ⊥) → not b ≡ true
-free_from true e = absurd (e refl)
-free_from false e = refl
-
--- a code 1 over the zeros
-one_from : (a b : Bool) → ◌≡◌ {A = ℕ} (cond a 1 (cond b 0 2)) 1 → a ≡ true
-one_from true b e = refl
+-- a code 1 of a part: it must be 1
+one_from : (a u : Bool) → code_by a u ≡ 1 → a ≡ true
+one_from true u e = refl
 one_from false true e = absurd (omega arith)
 one_from false false e = absurd (omega arith)
 
--- any other code over the zeros than 1
-other_from : (a b : Bool) → (◌≡◌ {A = ℕ} (cond a 1 (cond b 0 2)) 1 → ⊥) → a ≡ false
-other_from true b e = absurd (e refl)
-other_from false b e = refl
+-- any other code: it need not
+other_from : (a u : Bool) → (code_by a u ≡ 1 → ⊥) → a ≡ false
+other_from true u e = absurd (e refl)
+other_from false u e = refl
 
--- a code 0 over the zeros
-under_from : (a b : Bool) → ◌≡◌ {A = ℕ} (cond a 1 (cond b 0 2)) 0 → not b ≡ false
-under_from true b e = absurd (omega arith)
-under_from false true e = refl
-under_from false false e = absurd (omega arith)
+-- a code 0 of a part: it may not be 1
+under_from : (a u : Bool) → code_by a u ≡ 0 → u ≡ false
+under_from true u e = absurd (omega arith)
+under_from false u e = zero_from u e
 
--- any other than 0
-over_from : (a b : Bool) → (◌≡◌ {A = ℕ} (cond a 1 (cond b 0 2)) 0 → ⊥) → (a ≡ true) ⊎ (not b ≡ true)
-over_from true b e = inl refl
-over_from false true e = absurd (e refl)
-over_from false false e = inr refl
+-- any other code: it must be 1, or it may
+over_from : (a u : Bool) → (code_by a u ≡ 0 → ⊥) → (a ≡ true) ⊎ (u ≡ true)
+over_from true u e = inl refl
+over_from false u e = inr (free_from u e)
 
--- a test of three parts
-second_false : (a b : Bool) → b ≡ false → a && b ≡ false
-second_false true b e = e
-second_false false b e = refl
-
--- where the outer two fail together, all three do
+-- where the outer two of three tests fail together, all three do
 inner_false : (a b c : Bool) → a && c ≡ false → a && (b && c) ≡ false
 inner_false true true c e = e
 inner_false true false c e = refl
 inner_false false b c e = refl
 
--- the zeros tell where a part may be 1
-module _ (m : ℕ) (t : ℕ → ℕ) (g i at : ℕ) (row : List ℕ) (long : length row ≡ m) (h : Marked m g (zero_at t) 0 (λ _. 2) row) (cell : at ≡ clear g i) (below : i < m) where
-  -- the code of the cell of i
-  at_cell : get_or row at 0 ≡ cond (holds m g (zero_at t) (clear g i)) 0 2
-  at_cell = rw cell (h (clear g i) (omega (arith, clear_le g i)))
+module _ (m : ℕ) (t : ℕ → ℕ) (l r : ℕ) where
+  -- neither part may be 1 at a code 1: there is no pair
+  none_at : (i : ℕ) → i < m → t i ≡ 1 → upper m t r i ≡ false → upper m t l i ≡ false → or_none m t l r ≡ true
+  none_at i below one no_r no_l = (some_is (fails_at m t l r) m).1 (i, below, rw (one, no_r, no_l) refl)
 
-  -- 0: the part may not be 1
-  zero_laid : get_or row at 0 ≡ 0 → upper m t g i ≡ false
-  zero_laid e = zero_from _ (sym at_cell ∙ e)
+  -- where the left part must be 1 by the first k assignments, none of which fails, it may be 1
+  pub may_where_must : (k i : ℕ) → some k (fails_at m t l r) ≡ false → within k r (left_one_at m t l) i ≡ true → upper m t r i ≡ true
+  may_where_must k i none must = found ((within_decides k r (left_one_at m t l) i).0 must)
+    where
+      stands : (a b c : Bool) → a && c ≡ true → a && (not b && c) ≡ false → b ≡ true
+      stands true true c e f = refl
+      stands true false true e f = absurd (both_ways true f refl)
+      stands true false false e f = absurd (both_ways false refl e)
+      stands false b c e f = absurd (both_ways false refl e)
 
-  -- any other: it may
-  free_laid : (get_or row at 0 ≡ 0 → ⊥) → upper m t g i ≡ true
-  free_laid e = free_from _ (λ z. e (at_cell ∙ z))
+      passed : (j : ℕ) → j < k → fails_at m t l r j ≡ false
+      passed j before = false_from_ne_true _ (λ fails. both_ways _ none ((some_is (fails_at m t l r) k).1 (j, before, fails)))
 
--- one turn over the left cells
-module _ (m : ℕ) (t : ℕ → ℕ) (l r i : ℕ) (lefts rights : List ℕ) (below : i < m) (long : length rights ≡ m) (zeros : Marked m l (zero_at t) 0 (λ _. 2) rights) where
-  -- how far the left cells are laid, without a failure so far
-  abbrev pub LeftsTo : ℕ → List ℕ → Type 0
-  LeftsTo k row = (length row ≡ m) × Marked k r (left_one_at m t l) 1 (zeros_laid m t r) row × (some k (fails_at m t l r) ≡ false)
+      found : (j : ℕ) × (j < k) × ((clear r i ≡ clear r j) × (left_one_at m t l j ≡ true)) → upper m t r i ≡ true
+      found (j, before, (same, one)) =
+          ap not (within_same m r (zero_at t) i j same) ∙ stands (eqb (t j) 1) (upper m t r j) (not (upper m t l j)) one (passed j before)
 
-  -- no cell is laid where the code is not 1, or the right part may be 1
-  left_kept : (lefts' : List ℕ) → lefts' ≡ lefts → left_one_at m t l i ≡ false → LeftsTo i lefts → LeftsTo (i + 1) lefts'
-  left_kept lefts' same e (h, marked, none) =
-      let turn = turn_kept r (left_one_at m t l) 1 (zeros_laid m t r) m i lefts lefts' same e (h, marked) in
-      (turn.0, turn.1, some_more (fails_at m t l r) i none (inner_false (eqb (t i) 1) (not (upper m t r i)) (not (upper m t l i)) e))
+  -- what the left cells hold after the first k assignments, none of which fails
+  pub record LeftsTo (k : ℕ) (lefts : Cells) : Type 0 where
+    pub laid : Marked m r (left_one_at m t l) 1 (zero_code m t r) k lefts
+    pub none : some k (fails_at m t l r) ≡ false
 
-  -- so where the code is not 1
-  pub left_passed : (lefts' : List ℕ) → lefts' ≡ lefts → (t i ≡ 1 → ⊥) → LeftsTo i lefts → LeftsTo (i + 1) lefts'
-  left_passed lefts' same e = left_kept lefts' same (rw (ne_eqb (t i) 1 e) refl)
+  -- the assignment k lays nothing
+  left_kept : (k : ℕ) (lefts : Cells) → left_one_at m t l k ≡ false → LeftsTo k lefts → LeftsTo (k + 1) lefts
+  left_kept k lefts e h =
+      record {
+        laid = mark_kept m r (left_one_at m t l) 1 (zero_code m t r) k lefts e h.laid;
+        none = rw (add-one, inner_false (eqb (t k) 1) (not (upper m t r k)) (not (upper m t l k)) e) h.none;
+      }
+
+  -- so where its code is not 1
+  pub left_passed : (k : ℕ) (lefts : Cells) → (t k ≡ 1 → ⊥) → LeftsTo k lefts → LeftsTo (k + 1) lefts
+  left_passed k lefts other = left_kept k lefts (rw (ne_eqb (t k) 1 other) refl)
 
   -- so where the right part may be 1
-  pub left_free : (at : ℕ) (lefts' : List ℕ) → lefts' ≡ lefts → at ≡ clear l i → (get_or rights at 0 ≡ 0 → ⊥) → LeftsTo i lefts → LeftsTo (i + 1) lefts'
-  left_free at lefts' same cell e = left_kept lefts' same (second_false (eqb (t i) 1) _ (ap not (free_laid m t l i at rights long zeros cell below e)))
+  pub left_free : (k : ℕ) (lefts : Cells) → (zero_code m t l k ≡ 0 → ⊥) → LeftsTo k lefts → LeftsTo (k + 1) lefts
+  left_free k lefts other = left_kept k lefts (and_right (eqb (t k) 1) _ (ap not (free_from _ other)))
 
-  module _ (right_at at : ℕ) (right_in_cell : right_at ≡ clear l i) (cell : at ≡ clear r i) (one : t i ≡ 1) (zero : get_or rights right_at 0 ≡ 0) where
-    -- a code 1 where the right part must be 0 needs a left 1
-    needs_one : left_one_at m t l i ≡ true
-    needs_one = rw (one, zero_laid m t l i right_at rights long zeros right_in_cell below zero) refl
+  -- the left cell is 0 where the right part must be 0 at a code 1: there is no pair
+  pub left_fails : (k : ℕ) → k < m → t k ≡ 1 → zero_code m t l k ≡ 0 → code_by (within k r (left_one_at m t l) k) (upper m t r k) ≡ 0
+      → or_none m t l r ≡ true
+  left_fails k below one zero left_zero = none_at k below one (under_from _ _ left_zero) (zero_from _ zero)
 
-    -- the code of its left cell
-    left_at : LeftsTo i lefts → get_or lefts at 0 ≡ cond (holds i r (left_one_at m t l) (clear r i)) 1 (cond (holds m r (zero_at t) (clear r i)) 0 2)
-    left_at (h, marked, none) = rw cell (marked (clear r i) (omega (arith, clear_le r i)))
+  -- any other code there: a 1 is laid, and the assignment does not fail
+  pub left_laid : (k : ℕ) (lefts lefts' : Cells) → k < m → t k ≡ 1 → zero_code m t l k ≡ 0 → (code_by (within k r (left_one_at m t l) k) (upper m t r k) ≡ 0 → ⊥)
+      → lefts'.ignored ≡ lefts.ignored → lefts'.codes.now ≡ set lefts.codes.now (clear lefts.ignored k) 1 → LeftsTo k lefts → LeftsTo (k + 1) lefts'
+  left_laid k lefts lefts' below one zero other kept laid h =
+      let may : upper m t r k ≡ true = elim (over_from _ _ other) [ inl must ↦ may_where_must k k h.none must | inr u ↦ u ] in
+      record {
+        laid = mark_more m r (left_one_at m t l) 1 (zero_code m t r) k lefts lefts' kept laid (rw (one, zero_from _ zero) refl) below h.laid;
+        none = rw (add-one, one, may) h.none;
+      }
 
-    -- a code 0 at the left cell too: there is no pair
-    pub left_fails : get_or lefts at 0 ≡ 0 → LeftsTo i lefts → or_none m t l r ≡ true
-    left_fails e inv =
-        let no : upper m t r i ≡ false = under_from _ _ (sym (left_at inv) ∙ e) in
-        let here : fails_at m t l r i ≡ true = rw (one, no, zero_laid m t l i right_at rights long zeros right_in_cell below zero) refl in
-        some_at (fails_at m t l r) m i below here
+  -- what the right cells hold after the first k assignments
+  abbrev pub RightsTo : ℕ → Cells → Type 0
+  RightsTo k rights = Marked m l (right_one_at m t l r) 1 (zero_code m t l) k rights
 
-    -- an earlier 1 at the cell did not fail there
-    earlier : LeftsTo i lefts → holds i r (left_one_at m t l) (clear r i) ≡ true → upper m t r i ≡ true
-    earlier (h, marked, none) k = found ((some_decides _ (λ j. eqb (clear r i) (clear r j) && left_one_at m t l j ≡ true) (λ j. itself _) i).0 k)
-      where
-        stands : (a b c : Bool) → a && c ≡ true → a && (not b && c) ≡ false → b ≡ true
-        stands true true c e f = refl
-        stands true false true e f = absurd (both_ways true f refl)
-        stands true false false e f = absurd (both_ways false refl e)
-        stands false b c e f = absurd (both_ways false refl e)
+  -- the assignment k lays nothing where its code is not 1
+  pub right_passed : (k : ℕ) (rights : Cells) → (t k ≡ 1 → ⊥) → RightsTo k rights → RightsTo (k + 1) rights
+  right_passed k rights other = mark_kept m l (right_one_at m t l r) 1 (zero_code m t l) k rights (rw (ne_eqb (t k) 1 other) refl)
 
-        found : (j : ℕ) × (j < i) × (eqb (clear r i) (clear r j) && left_one_at m t l j ≡ true) → upper m t r i ≡ true
-        found (j, before, both) =
-            let parts = and_parts (eqb (clear r i) (clear r j)) (left_one_at m t l j) both in
-            ap (λ k. not (some m (λ n. eqb k (clear r n) && zero_at t n))) (eqb-true _ _ parts.0)
-            ∙ stands (eqb (t j) 1) (upper m t r j) (not (upper m t l j)) parts.1 (some-not (fails_at m t l r) i j before none)
+  -- nor where the left part must be 1
+  pub right_free : (k : ℕ) (rights : Cells) → or_left_code m t l r k ≡ 1 → RightsTo k rights → RightsTo (k + 1) rights
+  right_free k rights e = mark_kept m l (right_one_at m t l r) 1 (zero_code m t l) k rights (and_right (eqb (t k) 1) _ (ap not (one_from _ _ e)))
 
-    -- any other code there: the cell is laid, and nothing has failed
-    pub left_laid : (lefts' : List ℕ) → lefts' ≡ set lefts at 1 → (get_or lefts at 0 ≡ 0 → ⊥) → LeftsTo i lefts → LeftsTo (i + 1) lefts'
-    left_laid lefts' same e inv =
-        let turn = turn_more r (left_one_at m t l) 1 (zeros_laid m t r) m i at lefts lefts' same cell needs_one below (inv.0, inv.1) in
-        let may : upper m t r i ≡ true = elim (over_from _ _ (λ z. e (left_at inv ∙ z))) [ inl k ↦ earlier inv k | inr k ↦ k ] in
-        (turn.0, turn.1, some_more (fails_at m t l r) i inv.2 (second_false (eqb (t i) 1) _ (rw may refl)))
+  -- a 1 is laid where it need not be 1 at a code 1
+  pub right_laid : (k : ℕ) (rights rights' : Cells) → k < m → t k ≡ 1 → (or_left_code m t l r k ≡ 1 → ⊥)
+      → rights'.ignored ≡ rights.ignored → rights'.codes.now ≡ set rights.codes.now (clear rights.ignored k) 1 → RightsTo k rights → RightsTo (k + 1) rights'
+  right_laid k rights rights' below one other kept laid =
+      mark_more m l (right_one_at m t l r) 1 (zero_code m t l) k rights rights' kept laid (rw (one, other_from _ _ other) refl) below
 
--- one turn over the right cells
-module _ (m : ℕ) (t : ℕ → ℕ) (l r i : ℕ) (lefts rights : List ℕ) (below : i < m) (long : length lefts ≡ m)
-    (ones : Marked m r (left_one_at m t l) 1 (zeros_laid m t r) lefts) (at : ℕ) (cell : at ≡ clear r i) where
-  -- the code of the left cell of i
-  left_one : get_or lefts at 0 ≡ cond (holds m r (left_one_at m t l) (clear r i)) 1 (cond (holds m r (zero_at t) (clear r i)) 0 2)
-  left_one = rw cell (ones (clear r i) (omega (arith, clear_le r i)))
+module _ (m : ℕ) (t : ℕ → ℕ) (g : ℕ) where
+  -- what the cells of a part hold once the zeros among the first k assignments are laid
+  abbrev pub ZerosTo : ℕ → Cells → Type 0
+  ZerosTo k cells = Marked m g (zero_at t) 0 (λ _. 2) k cells
 
-  -- the left part must be 1 here, or it need not be
-  pub right_free : get_or lefts at 0 ≡ 1 → right_one_at m t l r i ≡ false
-  right_free e = second_false (eqb (t i) 1) _ (ap not (one_from _ _ (sym left_one ∙ e)))
+  -- a code other than 0 lays nothing
+  pub zero_passed : (k : ℕ) (cells : Cells) → (t k ≡ 0 → ⊥) → ZerosTo k cells → ZerosTo (k + 1) cells
+  zero_passed k cells other = mark_kept m g (zero_at t) 0 (λ _. 2) k cells (ne_eqb (t k) 0 other)
 
-  -- it need not: a code 1 needs a right 1
-  pub right_needs : t i ≡ 1 → (get_or lefts at 0 ≡ 1 → ⊥) → right_one_at m t l r i ≡ true
-  right_needs one e = let no : lower_left m t l r i ≡ false = other_from _ _ (λ z. e (left_one ∙ z)) in rw (one, no) refl
+  -- a code 0 lays a 0
+  pub zero_laid : (k : ℕ) (cells cells' : Cells) → k < m → t k ≡ 0 → cells'.ignored ≡ cells.ignored → cells'.codes.now ≡ set cells.codes.now (clear cells.ignored k) 0
+      → ZerosTo k cells → ZerosTo (k + 1) cells'
+  zero_laid k cells cells' below zero kept laid = mark_more m g (zero_at t) 0 (λ _. 2) k cells cells' kept laid (eq-eqb (t k) 0 zero) below

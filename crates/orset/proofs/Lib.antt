@@ -2,4 +2,4 @@ pub mod Marks
 pub mod Laying
 pub mod OrKept
 pub mod OrRows
-pub mod Writing
+pub mod OrEnds

@@ -1,43 +1,81 @@
--- Rows with one number for each cell, as a loop over the assignments writes them.
-use Rattle.std.proofs.Common.{◌≡◌, ℕ, ◌+◌, ◌<◌, Bool, true, false, cond, ◌&&◌, ◌||◌, eqb, ◌⊎◌, List, length, get_or, set, sym, refl, ap, ◌∙◌, inl, inr, add-one, arith, length-set}
+-- Cells while a pass over the assignments lays one code at some of them.
+use Rattle.std.proofs.Common.{◌≡◌, ℕ, ◌+◌, ◌<◌, Bool, true, false, cond, not, ◌&&◌, ◌||◌, eqb, ◌⊎◌, length, get_or, set, sym, refl, ap, ◌∙◌, subst, inl, inr, add-one, arith, length-set}
 use Rattle.std.proofs.lemmas.List.{get_or-set_same, get_or-set_other}
 use Rattle.std.proofs.lemmas.Bool.{cases_eq, eq-eqb, ne_eqb}
-use Rattle.tables.specs.Groups.{clear}
+use Rattle.tables.specs.Groups.{clear, within}
 use Rattle.tables.proofs.Clearing.{clear_le}
-use Rattle.orset.specs.Cells.{Marked, holds}
+use Rattle.orset.specs.declared.cells.Cells.{Cells}
+use Rattle.orset.specs.Cells.{Hold}
+use Rattle.orset.specs.Or.{upper, lower_left}
 
-module _ (g : ℕ) (p : ℕ → Bool) (v : ℕ) (had : ℕ → ℕ) where
+-- an assignment that makes its cells 0
+abbrev pub zero_at : (ℕ → ℕ) → ℕ → Bool
+zero_at t i = eqb (t i) 0
+
+-- one that makes its left cell 1
+abbrev pub left_one_at : ℕ → (ℕ → ℕ) → ℕ → ℕ → Bool
+left_one_at m t l i = eqb (t i) 1 && not (upper m t l i)
+
+-- one that makes its right cell 1
+abbrev pub right_one_at : ℕ → (ℕ → ℕ) → ℕ → ℕ → ℕ → Bool
+right_one_at m t l r i = eqb (t i) 1 && not (lower_left m t l r i)
+
+-- one where neither part may be 1
+abbrev pub fails_at : ℕ → (ℕ → ℕ) → ℕ → ℕ → ℕ → Bool
+fails_at m t l r i = eqb (t i) 1 && (not (upper m t r i) && not (upper m t l i))
+
+-- the cells have the code v where one of the first k assignments of the cell passes a test, and elsewhere the code that they had
+pub record Marked (m g : ℕ) (p : ℕ → Bool) (v : ℕ) (had : ℕ → ℕ) (k : ℕ) (cells : Cells) : Type 0 where
+  pub held : Hold m g (λ i. cond (within k g p i) v (had i)) cells
+
+-- the code that is read at the cell of an assignment
+pub code_held : (m g : ℕ) (f : ℕ → ℕ) (cells : Cells) → Hold m g f cells → (i read : ℕ) → i < m → read ≡ get_or cells.codes.now (clear cells.ignored i) 0 → f i ≡ read
+code_held m g f cells h i read below e = sym (e ∙ ap (λ x. get_or cells.codes.now (clear x i) 0) h.group ∙ h.codes i below)
+
+module _ (m g : ℕ) (p : ℕ → Bool) (v : ℕ) (had : ℕ → ℕ) where
   -- one assignment more of a cell
-  holds-suc : (i c : ℕ) (here passes : Bool) → eqb c (clear g i) ≡ here → p i ≡ passes → holds (i + 1) g p c ≡ (here && passes) || holds i g p c
-  holds-suc i c here passes e h = rw (add-one, e, h) refl
+  within-suc : (k i : ℕ) (here passes : Bool) → eqb (clear g i) (clear g k) ≡ here → p k ≡ passes → within (k + 1) g p i ≡ (here && passes) || within k g p i
+  within-suc k i here passes e h = rw (add-one, e, h) refl
 
-  -- the assignment i fails the test: no cell more
-  pub mark_kept : (i : ℕ) (row : List ℕ) → Marked i g p v had row → p i ≡ false → Marked (i + 1) g p v had row
-  mark_kept i row h e c inside = h c inside ∙ ap (λ b. cond b v (had c)) (sym (holds-suc i c (eqb c (clear g i)) false refl e ∙ and_false (eqb c (clear g i)) (holds i g p c)))
+  -- the assignment k fails the test: the cells are as they were
+  pub mark_kept : (k : ℕ) (cells : Cells) → p k ≡ false → Marked m g p v had k cells → Marked m g p v had (k + 1) cells
+  mark_kept k cells fails h =
+      record {
+        held = record {
+          group = h.held.group;
+          long = h.held.long;
+          codes = λ i inside.
+              h.held.codes i inside
+              ∙ ap (λ b. cond b v (had i)) (sym (within-suc k i (eqb (clear g i) (clear g k)) false refl fails ∙ and_false (eqb (clear g i) (clear g k)) (within k g p i)));
+        };
+      }
     where
       and_false : (a b : Bool) → (a && false) || b ≡ b
       and_false true b = refl
       and_false false b = refl
 
-  -- it passes: its cell gets the number
-  pub mark_more : (i : ℕ) (row : List ℕ) → Marked i g p v had row → p i ≡ true → clear g i < length row → Marked (i + 1) g p v had (set row (clear g i) v)
-  mark_more i row h e at c inside = here (cases_eq c (clear g i))
+  -- it passes: the code is laid at its cell
+  pub mark_more : (k : ℕ) (cells cells' : Cells) → cells'.ignored ≡ cells.ignored → cells'.codes.now ≡ set cells.codes.now (clear cells.ignored k) v
+      → p k ≡ true → k < m → Marked m g p v had k cells → Marked m g p v had (k + 1) cells'
+  mark_more k cells cells' kept laid passes below h =
+      record {
+        held = record {
+          group = kept ∙ h.held.group;
+          long = ap length laid ∙ length-set cells.codes.now (clear cells.ignored k) v ∙ h.held.long;
+          codes = λ i inside. rw (laid, h.held.group) (here i inside (cases_eq (clear g i) (clear g k)));
+        };
+      }
     where
-      here : (c ≡ clear g i) ⊎ (c ≡ clear g i → ⊥) → get_or (set row (clear g i) v) c 0 ≡ cond (holds (i + 1) g p c) v (had c)
-      here (inl same) =
-          ap (λ k. get_or (set row (clear g i) v) k 0) same ∙ get_or-set_same row (clear g i) v 0 at
-          ∙ sym (ap (λ b. cond b v (had c)) (holds-suc i c true true (eq-eqb _ _ same) e))
-      here (inr other) =
-          get_or-set_other row (clear g i) c v 0 other ∙ h c (rw (length-set row (clear g i) v) at inside)
-          ∙ sym (ap (λ b. cond b v (had c)) (holds-suc i c false true (ne_eqb _ _ other) e))
+      here : (i : ℕ) → i < m → (clear g i ≡ clear g k) ⊎ (clear g i ≡ clear g k → ⊥)
+          → get_or (set cells.codes.now (clear g k) v) (clear g i) 0 ≡ cond (within (k + 1) g p i) v (had i)
+      here i inside (inl same) =
+          let at : clear g k < length cells.codes.now = omega (arith, clear_le g k, h.held.long) in
+          ap (λ c. get_or (set cells.codes.now (clear g k) v) c 0) same ∙ get_or-set_same cells.codes.now (clear g k) v 0 at
+          ∙ sym (ap (λ b. cond b v (had i)) (within-suc k i true true (eq-eqb _ _ same) passes))
+      here i inside (inr other) =
+          get_or-set_other cells.codes.now (clear g k) (clear g i) v 0 other ∙ h.held.codes i inside
+          ∙ sym (ap (λ b. cond b v (had i)) (within-suc k i false true (ne_eqb _ _ other) passes))
 
-  -- a turn of a loop over m assignments, by the row that it leaves
-  pub turn_kept : (m i : ℕ) (row row' : List ℕ) → row' ≡ row → p i ≡ false
-      → (length row ≡ m) × Marked i g p v had row → (length row' ≡ m) × Marked (i + 1) g p v had row'
-  turn_kept m i row row' same e (long, h) = rw same (long, mark_kept i row h e)
-
-  -- one that writes its cell
-  pub turn_more : (m i at : ℕ) (row row' : List ℕ) → row' ≡ set row at v → at ≡ clear g i → p i ≡ true → i < m
-      → (length row ≡ m) × Marked i g p v had row → (length row' ≡ m) × Marked (i + 1) g p v had row'
-  turn_more m i at row row' same cell e below (long, h) =
-      rw (same, cell) (length-set row (clear g i) v ∙ long, mark_more i row h e (omega (arith, clear_le g i)))
+  -- all assignments are passed
+  pub marks_all : (k : ℕ) (cells : Cells) → k ≡ m → Marked m g p v had k cells → Hold m g (λ i. cond (within m g p i) v (had i)) cells
+  marks_all k cells all h = subst (λ x. Hold m g (λ i. cond (within x g p i) v (had i)) cells) all h.held

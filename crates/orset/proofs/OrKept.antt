@@ -1,9 +1,8 @@
 -- What the rule of OR says of a table: it refuses exactly a table without a pair, and its rows are parts.
-use Rattle.std.proofs.Common.{◌≡◌, ℕ, ◌^◌, ◌<◌, ◌≤◌, Bool, true, false, not, ◌&&◌, ◌||◌, eqb, ◌⊎◌, List, sym, refl, ap, ◌∙◌, subst, ap₂, inl, inr, arith}
-use Rattle.std.proofs.lemmas.Bool.{and_parts, both_ways, cases_Bool, eq-eqb, eqb-true, or_from, or_left, or_parts, or_right}
+use Rattle.std.proofs.Common.{◌≡◌, ℕ, ◌^◌, ◌<◌, ◌≤◌, Bool, true, false, not, ◌&&◌, ◌||◌, eqb, List, sym, refl, ap, ◌∙◌, subst, ap₂, inl, inr, arith}
+use Rattle.std.proofs.lemmas.Bool.{and_parts, both_ways, cases_Bool, eq-eqb, eqb-true, not-false, not-true, or_from, or_left, or_parts, or_right}
 use Rattle.tables.specs.Groups.{clear, within}
 use Rattle.tables.specs.Tables.{Allows}
-use Rattle.tables.proofs.Bounded.{itself, some_decides}
 use Rattle.tables.proofs.Clearing.{SameCleared, agree_decides, ignores_cleared}
 use Rattle.tables.proofs.Within.{Within, within_decides, within_here, within_same, within_still}
 use Rattle.gatesets.specs.declared.request.Request.{Request}
@@ -11,19 +10,8 @@ use Rattle.gatesets.specs.Rules.{no_pair, two_parts}
 use Rattle.gatesets.specs.Splits.{Pair, Parts, code}
 use Rattle.gatesets.proofs.CodeRows.{codes_parts, joined_of, ruled_none, ruled_parts}
 use Rattle.orset.specs.Or.{OrGives, code_by, lower_left, lower_right, or_gate, or_left_code, or_none, or_right_code, or_rule, upper}
-use Rattle.orset.specs.Cells.{fails_at, left_one_at, right_one_at, zero_at}
-
--- the truth values that the rule asks for
-not-false : (b : Bool) → not b ≡ true → b ≡ false
-not-false true e = absurd (both_ways false refl e)
-not-false false e = refl
-
--- a test that finds a code 1 where neither part may be 1
-three : (a b c : Bool) → a && (not b && not c) ≡ true → (a ≡ true) × (b ≡ false) × (c ≡ false)
-three true false false e = (refl, refl, refl)
-three true true c e = absurd (both_ways false refl e)
-three true false true e = absurd (both_ways false refl e)
-three false b c e = absurd (both_ways false refl e)
+use Rattle.orset.proofs.Marks.{fails_at, left_one_at, right_one_at, zero_at}
+use Rattle.orset.proofs.Laying.{may_where_must, some_is}
 
 -- a code is one of a table
 code_small : (lower upper : Bool) → code_by lower upper ≤ 2
@@ -49,43 +37,15 @@ module _ (n : ℕ) (t : ℕ → ℕ) (l r : ℕ) where
   -- a function that ignores g and is 0 at every code 0 is 0 wherever the part may not be 1
   under : (g : ℕ) (f : ℕ → Bool) → SameCleared n g f → ((j : ℕ) → j < 2 ^ n → t j ≡ 0 → f j ≡ false)
       → (i : ℕ) → i < 2 ^ n → upper (2 ^ n) t g i ≡ false → f i ≡ false
-  under g f same zero i hi barred = found ((within_decides (2 ^ n) g (zero_at t) i).0 (holds_not _ barred))
+  under g f same zero i hi barred = found ((within_decides (2 ^ n) g (zero_at t) i).0 (not-false _ barred))
     where
-      holds_not : (b : Bool) → not b ≡ false → b ≡ true
-      holds_not true e = refl
-      holds_not false e = absurd (both_ways true e refl)
-
       found : Within (2 ^ n) g (zero_at t) i → f i ≡ false
       found (j, hj, (e, z)) = same i j hi hj e ∙ zero j hj (eqb-true _ _ z)
 
   module _ (stands : or_none (2 ^ n) t l r ≡ false) where
-    -- each code 1 is where one of the parts may be 1
-    bounded : (i : ℕ) → i < 2 ^ n → t i ≡ 1 → (upper (2 ^ n) t r i ≡ true) ⊎ (upper (2 ^ n) t l i ≡ true)
-    bounded i hi one =
-        elim (cases_Bool (upper (2 ^ n) t r i)) [
-          | inl a ↦ inl a
-          | inr a ↦ elim (cases_Bool (upper (2 ^ n) t l i)) [
-            | inl b ↦ inr b
-            | inr b ↦
-                absurd
-                (both_ways _ stands ((some_decides (fails_at (2 ^ n) t l r) (λ k. fails_at (2 ^ n) t l r k ≡ true) (λ k. itself _) (2 ^ n)).1 (i, hi, fails i one a b)))
-          ]
-        ]
-      where
-        fails : (i : ℕ) → t i ≡ 1 → upper (2 ^ n) t r i ≡ false → upper (2 ^ n) t l i ≡ false → fails_at (2 ^ n) t l r i ≡ true
-        fails i one a b = rw (one, a, b) refl
-
     -- the left part must be 1 only where it may
-    left_under : (i : ℕ) → i < 2 ^ n → lower_left (2 ^ n) t l r i ≡ true → upper (2 ^ n) t r i ≡ true
-    left_under i hi h = found ((within_decides (2 ^ n) r (left_one_at (2 ^ n) t l) i).0 h)
-      where
-        found : Within (2 ^ n) r (left_one_at (2 ^ n) t l) i → upper (2 ^ n) t r i ≡ true
-        found (j, hj, (e, both)) =
-            let parts = and_parts (eqb (t j) 1) (not (upper (2 ^ n) t l j)) both in
-            elim (bounded j hj (eqb-true _ _ parts.0)) [
-              | inl u ↦ upper_same r i j e ∙ u
-              | inr u ↦ absurd (both_ways _ (not-false _ parts.1) u)
-            ]
+    left_under : (i : ℕ) → lower_left (2 ^ n) t l r i ≡ true → upper (2 ^ n) t r i ≡ true
+    left_under i must = may_where_must (2 ^ n) t l r (2 ^ n) i stands must
 
     -- and the right part
     right_under : (i : ℕ) → i < 2 ^ n → lower_right (2 ^ n) t l r i ≡ true → upper (2 ^ n) t l i ≡ true
@@ -98,14 +58,14 @@ module _ (n : ℕ) (t : ℕ → ℕ) (l r : ℕ) where
               | inl u ↦ upper_same l i j e ∙ u
               | inr u ↦
                   let must : lower_left (2 ^ n) t l r j ≡ true = within_here (2 ^ n) r (left_one_at (2 ^ n) t l) j hj (rw (parts.0, u) refl) in
-                  absurd (both_ways _ (not-false _ parts.1) must)
+                  absurd (both_ways _ (not-true _ parts.1) must)
             ]
 
     -- the rows join to what the table allows
     rows_join : (i : ℕ) → i < 2 ^ n → (u v : Bool) → Allows (or_left_code (2 ^ n) t l r i) u → Allows (or_right_code (2 ^ n) t l r i) v → Allows (t i) (u || v)
     rows_join i hi u v a b = (
       λ c.
-          or_from u v (a.0 (code_zero _ _ (left_under i hi) (upper_zero r i hi c)))
+          or_from u v (a.0 (code_zero _ _ (left_under i) (upper_zero r i hi c)))
           (b.0 (code_zero _ _ (right_under i hi) (upper_zero l i hi c))),
       λ c.
           elim (cases_Bool (lower_left (2 ^ n) t l r i)) [
@@ -151,18 +111,19 @@ module _ (ask : Request) (table : List ℕ) where
 
   -- a table that the rule refuses has no pair
   pub or_refused : or_rule ask table ≡ no_pair → Pair or_gate ask table → ⊥
-  or_refused e p = found ((some_decides (fails_at (2 ^ n) t l r) (λ k. fails_at (2 ^ n) t l r k ≡ true) (λ k. itself _) (2 ^ n)).0 (ruled_none _ _ _ e))
+  or_refused e p = found ((some_is (fails_at (2 ^ n) t l r) (2 ^ n)).0 (ruled_none _ _ _ e))
     where
       allowed : (i : ℕ) → i < 2 ^ n → Allows (t i) (p.first i || p.second i)
       allowed i hi = subst (Allows (t i)) (joined_of ◌||◌ (p.first i) (p.second i)) (p.admitted i hi)
 
       found : (i : ℕ) × (i < 2 ^ n) × (fails_at (2 ^ n) t l r i ≡ true) → ⊥
       found (i, hi, fails) =
-          let (one, no_r, no_l) = three (eqb (t i) 1) (upper (2 ^ n) t r i) (upper (2 ^ n) t l i) fails in
+          let (one, neither) = and_parts _ _ fails in
+          let (no_r, no_l) = and_parts _ _ neither in
           let first : p.first i ≡ false =
-          under n t l r r p.first (ignores_cleared n r p.first p.first_ignores) (λ j hj c. (or_parts _ _ ((allowed j hj).0 c)).0) i hi no_r in
+          under n t l r r p.first (ignores_cleared n r p.first p.first_ignores) (λ j hj c. (or_parts _ _ ((allowed j hj).0 c)).0) i hi (not-true _ no_r) in
           let second : p.second i ≡ false =
-          under n t l r l p.second (ignores_cleared n l p.second p.second_ignores) (λ j hj c. (or_parts _ _ ((allowed j hj).0 c)).1) i hi no_l in
+          under n t l r l p.second (ignores_cleared n l p.second p.second_ignores) (λ j hj c. (or_parts _ _ ((allowed j hj).0 c)).1) i hi (not-true _ no_l) in
           both_ways _ (or_from _ _ first second) ((allowed i hi).1 (eqb-true _ _ one))
 
   -- the two parts of the rule

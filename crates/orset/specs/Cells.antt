@@ -1,31 +1,36 @@
--- Rows with one code for each cell of a part, where a cell is an assignment cleared of the group that the part ignores.
-use Rattle.std.specs.Prelude.{◌≡◌, ℕ, ◌<◌, Bool, cond, not, ◌&&◌, List, length, ◌==◌, slice_index}
-use Rattle.tables.specs.Groups.{clear, some}
-use Rattle.orset.specs.Or.{upper, lower_left}
+-- What the cells of a part hold after each pass. A cell is an assignment cleared of the group that the part ignores.
+use Rattle.std.specs.Prelude.{◌≡◌, ℕ, ◌<◌, Bool, if◌then◌else◌, List, length, slice_index}
+use Rattle.tables.specs.Groups.{clear}
+use Rattle.gatesets.specs.Splits.{code}
+use Rattle.orset.specs.declared.cells.Cells.{Cells}
+use Rattle.orset.specs.Or.{or_left_code, or_none, or_right_code, upper}
 
--- some assignment below m of the cell c passes a test
-abbrev pub holds : ℕ → ℕ → (ℕ → Bool) → ℕ → Bool
-holds m g p c = some m (λ j. (c == clear g j) && p j)
+-- the cells of a part that ignores the group g, as many as there are assignments m, hold the code f i at the cell of each assignment i
+pub record Hold (m g : ℕ) (f : ℕ → ℕ) (cells : Cells) : Type 0 where
+  pub group : cells.ignored ≡ g
+  pub long : length cells.codes.now ≡ m
+  pub codes : (i : ℕ) → i < m → slice_index cells.codes.now (clear g i) ≡ f i
 
--- the row has the code v at each cell that holds one of the assignments below m that pass a test, and at any other what it had
-abbrev pub Marked : ℕ → ℕ → (ℕ → Bool) → ℕ → (ℕ → ℕ) → List ℕ → Type 0
-Marked m g p v had row = (c : ℕ) → c < length row → slice_index row c ≡ cond (holds m g p c) v (had c)
+-- every cell is free
+abbrev pub AllFree : List ℕ → Cells → Type 0
+AllFree table cells = Hold (length table) cells.ignored (λ _. 2) cells
 
--- an assignment that makes its cells 0
-abbrev pub zero_at : (ℕ → ℕ) → ℕ → Bool
-zero_at t i = t i == 0
+-- a code of a part that ignores the group g, before any 1 is laid: 0 where the part may not be 1, free elsewhere
+abbrev pub zero_code : ℕ → (ℕ → ℕ) → ℕ → ℕ → ℕ
+zero_code m t g i = if upper m t g i then 2 else 0
 
--- one that makes its left cell 1, and one that makes its right cell 1
-abbrev pub left_one_at : ℕ → (ℕ → ℕ) → ℕ → ℕ → Bool
-left_one_at m t l i = t i == 1 && not (upper m t l i)
+-- the cells have these codes
+abbrev pub ZerosLaid : List ℕ → ℕ → Cells → Type 0
+ZerosLaid table g cells = Hold (length table) g (zero_code (length table) (code table) g) cells
 
-abbrev pub right_one_at : ℕ → (ℕ → ℕ) → ℕ → ℕ → ℕ → Bool
-right_one_at m t l r i = t i == 1 && not (lower_left m t l r i)
+-- the left cells have the codes of the left part
+abbrev pub LeftLaid : List ℕ → ℕ → ℕ → Cells → Type 0
+LeftLaid table l r cells = Hold (length table) r (or_left_code (length table) (code table) l r) cells
 
--- one where neither part may be 1
-abbrev pub fails_at : ℕ → (ℕ → ℕ) → ℕ → ℕ → ℕ → Bool
-fails_at m t l r i = t i == 1 && (not (upper m t r i) && not (upper m t l i))
+-- the right cells have the codes of the right part
+abbrev pub RightLaid : List ℕ → ℕ → ℕ → Cells → Type 0
+RightLaid table l r cells = Hold (length table) l (or_right_code (length table) (code table) l r) cells
 
--- the codes of the cells once the zeros are laid
-abbrev pub zeros_laid : ℕ → (ℕ → ℕ) → ℕ → ℕ → ℕ
-zeros_laid m t g c = cond (holds m g (zero_at t) c) 0 2
+-- whether the table has no pair
+abbrev pub lacks_pair : List ℕ → ℕ → ℕ → Bool
+lacks_pair table l r = or_none (length table) (code table) l r

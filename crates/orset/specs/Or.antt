@@ -1,5 +1,5 @@
 -- The rule of OR. A table is a function t from the m assignments to codes, l and r are the groups.
-use Rattle.std.specs.Prelude.{◌≡◌, ℕ, ◌^◌, ◌<◌, Bool, cond, not, ◌&&◌, ◌||◌, List, Decides, ◌==◌, nat_eq}
+use Rattle.std.specs.Prelude.{◌≡◌, ℕ, ◌^◌, ◌<◌, Bool, if◌then◌else◌, not, ◌&&◌, ◌||◌, List, IsTrue, ◌↔◌, ◌==◌}
 use Rattle.tables.specs.Gates.{gate_of}
 use Rattle.tables.specs.Groups.{Agree, agree, some, within}
 use Rattle.gatesets.specs.declared.request.Request.{Request}
@@ -12,7 +12,7 @@ or_gate = gate_of ◌||◌
 
 -- where a part may be 1: no assignment that agrees with i outside the group g has code 0
 abbrev pub upper : ℕ → (ℕ → ℕ) → ℕ → ℕ → Bool
-upper m t g i = not (within m g (λ j. nat_eq (t j) 0) i)
+upper m t g i = not (within m g (λ j. t j == 0) i)
 
 -- where the left part must be 1: some j that agrees with i outside the right group has code 1, and the right part must be 0 at j
 abbrev pub lower_left : ℕ → (ℕ → ℕ) → ℕ → ℕ → ℕ → Bool
@@ -28,7 +28,7 @@ or_none m t l r = some m (λ i. (t i == 1) && (not (upper m t r i) && not (upper
 
 -- the code of a part: 1 where it must be 1, 0 where it may not be 1, else free
 abbrev pub code_by : Bool → Bool → ℕ
-code_by lower upper = cond lower 1 (cond upper 2 0)
+code_by lower upper = if lower then 1 else (if upper then 2 else 0)
 
 abbrev pub or_left_code : ℕ → (ℕ → ℕ) → ℕ → ℕ → ℕ → ℕ
 or_left_code m t l r i = code_by (lower_left m t l r i) (upper m t r i)
@@ -46,4 +46,4 @@ or_rule ask table =
 -- the parts that OR gives: those of the rule, whose test of agreement outside a group tells exactly that
 pub record OrGives (ask : Request) (table left right : List ℕ) : Type 0 where
   pub rule : or_rule ask table ≡ two_parts left right
-  pub agrees : (g i j : ℕ) → i < 2 ^ ask.variables → j < 2 ^ ask.variables → Decides (agree g i j) (Agree g i j)
+  pub agrees : (g i j : ℕ) → i < 2 ^ ask.variables → j < 2 ^ ask.variables → IsTrue (agree g i j) ↔ Agree g i j
