@@ -1,6 +1,5 @@
-ghost use Rattle.std.specs.Prelude.{◌≡◌, ◌^◌, ◌≤◌, position, nat_lt};
+ghost use Rattle.std.specs.Prelude.{◌≡◌, ◌^◌, position, nat_lt};
 ghost use Rattle.tables.specs.Checks.{answered};
-ghost use Rattle.tables.specs.Groups.{lawful_groups};
 ghost use Rattle.gatesets.specs.Lent.{rows_of};
 ghost use Rattle.gatesets.specs.Splits.{early};
 
@@ -14,15 +13,6 @@ fn wrong_code(table: &[u8]) -> Option<usize>
     ensures { result ≡ position (λ c. nat_lt 2 c) table.now }
 {
     table.iter().position(|code| *code > 2)
-}
-
-// Whether two groups are non-empty, disjoint and inside the variables of a table.
-fn are_lawful(variables: u8, left: u16, right: u16) -> bool
-    requires { variables ≤ 10 }
-    ensures { result ≡ lawful_groups variables left right }
-{
-    let points: u16 = 1 << variables;
-    0 < left && 0 < right && left & right == 0 && left < points && right < points
 }
 
 // Makes every check of a split but the last, in their order, for a set of so many gates, and answers how many assignments the table has.
@@ -41,7 +31,7 @@ pub fn check_split(count: u8, ask: Request, rows: &LentRows<'_>) -> Result<usize
     if ask.gate >= count {
         return Err(SplitRefusal::Gate);
     }
-    if !are_lawful(ask.variables, ask.left, ask.right) {
+    if !ask.has_lawful_groups() {
         return Err(SplitRefusal::Groups);
     }
     Ok(points)
