@@ -21,7 +21,7 @@ returns-then-ask-count c =
     (sym (early_late c.args.count c.args.ask (rows_of c.args.rows.now) c.in_ok-points.points known (search rules) (search rules)
     None _ _ (sym c.in_default.is ∙ c.wrong_code.ensures) (le-leb _ _ c.if-ask-count.true) refl))
 
-pub returns-then-not-has_lawful_groups : goal.returns-then-not-ask
+pub returns-then-not-has_lawful_groups : goal.returns-then-not-has_lawful_groups
 returns-then-not-has_lawful_groups c =
     let known : Some c.in_ok-points.points ≡ sized c.args.ask.variables = search rules in
     ap (λ o. answered o (2 ^ c.args.ask.variables))
