@@ -1,8 +1,8 @@
 -- The cells of one class are visited, class after class.
-use Rattle.std.proofs.Common.{◌≡◌, ℕ, ◌+◌, ◌<◌, Bool, true, false, ◌⊎◌, List, [], ◌∷◌, ◌++◌, length, get_or, set, sym, refl, ap, ◌∙◌, subst, inl, inr, arith}
+use Rattle.std.proofs.Common.{◌≡◌, ℕ, ◌+◌, ◌<◌, ◌⊎◌, List, [], ◌∷◌, ◌++◌, length, get_or, set, sym, refl, ap, ◌∙◌, subst, inl, inr, arith}
 use Rattle.std.proofs.lemmas.List.{length_push}
 use Rattle.std.proofs.lemmas.Bool.{cases_eq, cases_lt}
-use Rattle.xorset.specs.Search.{Among, Between, Came, Going, IsCell, Passed, Touches, Waits, Went, waiting}
+use Rattle.xorset.specs.Search.{Among, Between, Going, IsCell, Touches, Waits, Went, waiting}
 use Rattle.xorset.proofs.Linking.{among_last}
 use Rattle.xorset.proofs.Stepping.{pop, root}
 use Rattle.xorset.proofs.Writing.{written_fewer, written_here}
@@ -56,14 +56,12 @@ module _ (n : ℕ) (t : ℕ → ℕ) (l r : ℕ) where
         (root n t l r vs k b.going wait (λ w q. elim (cases_lt w k) [ inl lt ↦ absurd (b.past w lt q) | inr le ↦ le ]))
 
     -- when its class is visited it is passed too
-    pub class_passed : (answer : Bool) (held₁ vs₂ held₂ : List ℕ) → get_or vs k 2 ≡ 3 → Came answer n t l r (set vs k 0) held₁ vs₂ held₂ → (answer ≡ true → held₂ ≡ [])
-        → Passed answer n t l r (k + 1) vs₂ held₂
-    class_passed false held₁ vs₂ held₂ wait came empty = came
-    class_passed true held₁ vs₂ held₂ wait came empty =
+    pub class_passed : (held₁ vs₂ held₂ : List ℕ) → get_or vs k 2 ≡ 3 → Went n t l r (set vs k 0) held₁ vs₂ held₂ → held₂ ≡ [] → Between n t l r (k + 1) vs₂ held₂
+    class_passed held₁ vs₂ held₂ wait went empty =
         record {
-          empty = empty refl;
-          going = subst (λ x. Going n t l r vs₂ x (Waits n l r x)) (empty refl) came.going;
-          past = λ c lt e. past c lt (came.fewer c e) (cases_eq c k);
+          empty = empty;
+          going = subst (λ x. Going n t l r vs₂ x (Waits n l r x)) empty went.going;
+          past = λ c lt e. past c lt (went.fewer c e) (cases_eq c k);
         }
       where
         small : 0 < 2

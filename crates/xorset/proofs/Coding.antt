@@ -7,7 +7,9 @@ use Rattle.tables.proofs.Clearing.{clear_le}
 use Rattle.tables.proofs.Fills.{fill_more, fill_all}
 use Rattle.xorset.specs.Cells.{is_one, left_cell, right_cell}
 use Rattle.xorset.specs.Xor.{linked, value_code}
-use Rattle.xorset.specs.Search.{Coded, Valued}
+use Rattle.xorset.specs.Search.{Coded, Valued, cell_of}
+use Rattle.xorset.specs.declared.frame.Side.{Side}
+use Rattle.xorset.specs.declared.frame.Side.TheVariants.{Left, Right}
 
 -- values that are found are codes
 value_small : (b v : Bool) → value_code b v ≤ 2
@@ -27,12 +29,9 @@ pub code_small : (vs : List ℕ) (c cell : ℕ) → c ≡ cell → c < length vs
 code_small vs c cell e inside small = let read = get_or_default vs c 0 2 inside ∙ ap (λ x. get_or vs x 2) e in omega arith
 
 -- both cells of an assignment stand in the row
-pub left_inside : (n r i : ℕ) → i < 2 ^ n → left_cell r i < 2 * 2 ^ n
-left_inside n r i h = omega (arith, clear_le r i)
-
--- the right cell too
-pub right_inside : (n l i : ℕ) → i < 2 ^ n → right_cell n l i < 2 * 2 ^ n
-right_inside n l i h = omega (arith, clear_le l i)
+pub cell_inside : (n l r : ℕ) (side : Side) (i : ℕ) → i < 2 ^ n → cell_of n l r side i < 2 * 2 ^ n
+cell_inside n l r Left i h = omega (arith, clear_le r i)
+cell_inside n l r Right i h = omega (arith, clear_le l i)
 
 module _ (vs : List ℕ) (cell : ℕ → ℕ) (m : ℕ) (row : List ℕ) (long : length row ≡ m) where
   -- one turn writes the code of the next assignment, which stands in the row of values at c

@@ -11,5 +11,6 @@ pub mod Marking
 pub mod Following
 pub mod Stepping
 pub mod Visiting
+pub mod Searches
 pub mod Classing
 pub mod Coding

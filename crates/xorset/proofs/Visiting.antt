@@ -1,12 +1,12 @@
 -- The links of a cell are followed one by one.
-use Rattle.std.proofs.Common.{◌≡◌, ℕ, ◌+◌, ◌-◌, ◌*◌, ◌^◌, ◌<◌, ◌≤◌, true, false, ◌⊎◌, List, [], ◌∷◌, ◌++◌, length, get_or, set, sym, ap, ◌∙◌, subst, inl, inr, arith}
+use Rattle.std.proofs.Common.{◌≡◌, ℕ, ◌+◌, ◌-◌, ◌*◌, ◌^◌, ◌<◌, ◌≤◌, ◌⊎◌, List, [], ◌∷◌, ◌++◌, length, get_or, set, sym, ap, ◌∙◌, inl, inr, arith}
 use lib.Bits.{bit_and, and_le_l, and_le_r}
 use Rattle.std.proofs.lemmas.Nat.{pow_below}
 use Rattle.std.proofs.lemmas.List.{get_or_default, length_push}
 use Rattle.std.proofs.lemmas.Bool.{cases_eq}
 use Rattle.tables.proofs.Clearing.{clear_le}
-use Rattle.xorset.specs.Search.{Ends, Followed, Going, NoValues, Remains, Touches, Visits, Went, cell_of, waiting, wanted}
-use Rattle.xorset.specs.declared.xor.Visit.{Visit}
+use Rattle.xorset.specs.Search.{Conflicts, Ends, Followed, Going, NoValues, Remains, Touches, Visits, Went, cell_of, waiting, wanted}
+use Rattle.xorset.specs.declared.frame.Visit.{Visit}
 use Rattle.xorset.proofs.Linking.{among_last, among_more, wanted_small}
 use Rattle.xorset.proofs.Stepping.{reopen, link_none, link_same, link_pushed, link_conflict}
 use Rattle.xorset.proofs.Submasks.{add_below, add-clear, and_inside, next_part}
@@ -88,15 +88,15 @@ module _ (n : ℕ) (t : ℕ → ℕ) (l r : ℕ) (visit : Visit) (visits : Visit
       kept : Going n t l r vs held (Remains n l r held visit.group visit.base part) → Turning n t l r visit vs₀ held₀ vs held value part
       kept g = record { going = g; fewer = turn.fewer; less = turn.less; value_is = turn.value_is; small = turn.small }
 
-      -- a turn, by what following the link did
-      followed : (vs' held' : List ℕ) → Followed true (t (visit.base + part)) value (cell_of n l r visit.other (visit.base + part)) vs held vs' held'
+      -- the link of the part is followed to its other cell
+      pub turn_done : (vs' held' : List ℕ) → Followed (t (visit.base + part)) value (cell_of n l r visit.other (visit.base + part)) vs held vs' held'
           → Turning n t l r visit vs₀ held₀ vs' held' value part
-      followed vs' held' (inl (inl none, same_vs, same_held)) =
+      turn_done vs' held' (inl (inl none, same_vs, same_held)) =
           rw (same_vs, same_held) (kept (link_none n t l r vs held (visit.base + part) _ _ turn.going none rest))
-      followed vs' held' (inl (inr (link, e), same_vs, same_held)) =
+      turn_done vs' held' (inl (inr (link, e), same_vs, same_held)) =
           let wants = e ∙ ap (λ v. wanted v (t (visit.base + part))) (sym turn.value_is) in
           rw (same_vs, same_held) (kept (link_same n t l r vs held (visit.base + part) visit.cell _ _ _ turn.going (ends_at part whole) valued wants rest))
-      followed vs' held' (inr (link, wait, new_vs, new_held)) =
+      turn_done vs' held' (inr (link, wait, new_vs, new_held)) =
           rw (new_vs ∙ ap (λ v. set vs other (wanted v (t i))) (sym turn.value_is), new_held) pushed
         where
           i : ℕ
@@ -123,18 +123,12 @@ module _ (n : ℕ) (t : ℕ → ℕ) (l r : ℕ) (visit : Visit) (visits : Visit
                 small = turn.small;
               }
 
-      -- the link of the part is followed to its other cell
-      pub turn_done : (other : ℕ) (vs' held' : List ℕ) → other ≡ cell_of n l r visit.other (visit.base + part)
-          → Followed true (t (visit.base + part)) value other vs held vs' held' → Turning n t l r visit vs₀ held₀ vs' held' value part
-      turn_done other vs' held' is f = followed vs' held' (subst (λ x. Followed true (t (visit.base + part)) value x vs held vs' held') is f)
-
       -- which has the other value
-      pub turn_conflict : (other : ℕ) (vs' held' : List ℕ) → other ≡ cell_of n l r visit.other (visit.base + part)
-          → Followed false (t (visit.base + part)) value other vs held vs' held' → NoValues n t l r
-      turn_conflict other vs' held' is (link, conflict, differs) =
+      pub turn_conflict : Conflicts (t (visit.base + part)) value (cell_of n l r visit.other (visit.base + part)) vs → NoValues n t l r
+      turn_conflict (link, conflict, differs) =
           link_conflict n t l r vs held (visit.base + part) visit.cell (cell_of n l r visit.other (visit.base + part)) _ turn.going
-          (assignment_below part whole) link (ends_at part whole) valued (λ e. conflict (ap (λ x. get_or vs x 2) is ∙ e))
-          (λ e. differs (ap (λ x. get_or vs x 2) is ∙ e ∙ ap (λ v. wanted v (t (visit.base + part))) turn.value_is))
+          (assignment_below part whole) link (ends_at part whole) valued conflict
+          (λ e. differs (e ∙ ap (λ v. wanted v (t (visit.base + part))) turn.value_is))
 
     -- the last part is done: the visit is over
     pub turn_last : (vs held : List ℕ) (value part : ℕ) → part ≡ 0 → Turning n t l r visit vs₀ held₀ vs held value part → Went n t l r vs₀ held₀ vs held

@@ -1,6 +1,8 @@
 // The set of gates whose only gate is XOR.
 #![tactic(auto)]
 
+mod frame;
+mod search;
 mod xor;
 
 pub use xor::Xor;

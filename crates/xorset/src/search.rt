@@ -1,0 +1,161 @@
+ghost use Rattle.std.specs.Prelude.{◌≡◌, ◌*◌, ◌^◌, length};
+
+use super::frame::{Frame, Side, Visit};
+use gatesets::NoPair;
+use tables::Stack;
+
+// The number of a cell that has no link.
+const FREE: u16 = 2;
+
+// The number of a cell that waits for its value.
+const WAITING: u16 = 3;
+
+// A search for values of the cells that meet the links of a table: a number for each cell, and a stack of the cells to visit.
+#[derive(Drop)]
+pub struct Search<'a> {
+    pub table: &'a [u8],
+    pub frame: Frame,
+    pub values: &'a mut [u16],
+    pub stack: Stack<'a, u16>,
+    ghost table_long: { length table.now ≡ 2 ^ frame.variables },
+    ghost values_long: { length values.now ≡ 2 * 2 ^ frame.variables },
+    ghost stack_long: { length stack.cells.now ≡ 2 * 2 ^ frame.variables },
+}
+
+impl<'a> Search<'a> {
+    ghost use Rattle.std.specs.Prelude.{◌+◌, ◌<◌, ◌≤◌, [], MatchResult, slice_index, slice_index_or};
+    ghost use Rattle.tables.specs.Stacks.{held};
+    ghost use Rattle.gatesets.specs.Rules.{codes};
+    ghost use Rattle.gatesets.specs.Splits.{code};
+    ghost use Rattle.xorset.specs.Search.{cell_of, Coded, Conflicts, Followed, HasNoValues, HasValues, IsBetween, IsGoing, IsOpen, IsTouched, Kept, Marked, Visits, WentOn, waiting};
+
+    // A search that begins: the cells that have a link wait, and no cell is to visit.
+    pub fn new(table: &'a [u8], frame: Frame, values: &'a mut [u16], cells: &'a mut [u16]) -> Self
+        requires table { length table.now ≡ 2 ^ frame.variables }
+        requires work { (length values.old ≡ 2 * 2 ^ frame.variables) × (length cells.old ≡ 2 * 2 ^ frame.variables) }
+        ensures kept { (result.table.now ≡ table.now) × (result.frame ≡ frame) }
+        ensures begun { IsBetween result 0 }
+    {
+        Self::mark_links(table, frame, values);
+        Search {
+            table,
+            frame,
+            values,
+            stack: Stack::new(cells),
+        }
+    }
+
+    // Marks the cells that have a link as waiting, and all others as free.
+    fn mark_links(table: &[u8], frame: Frame, values: &mut [u16])
+        requires table { length table.now ≡ 2 ^ frame.variables }
+        requires values { length values.old ≡ 2 * 2 ^ frame.variables }
+        ensures { Marked frame.variables (code table.now) frame.left frame.right (2 ^ frame.variables) values.new }
+    {
+        values.fill(FREE);
+        for (i, code) in table.iter().enumerate() {
+            if *code < 2 {
+                values[frame.cell_of(Side::Left, i)] = WAITING;
+                values[frame.cell_of(Side::Right, i)] = WAITING;
+            }
+        }
+    }
+
+    // Finds values of the cells that meet the links, the lowest cell of each class 0.
+    pub fn find_values(&mut self) -> Result<(), NoPair>
+        requires { IsBetween self.old 0 }
+        ensures kept { Kept self.old self.new }
+        ensures found { MatchResult result (λ _. HasValues self.new) (λ _. HasNoValues self.old) }
+    {
+        for root in 0..self.frame.points {
+            self.visit_class(root)?;
+        }
+        Ok(())
+    }
+
+    // Gives a left cell that waits the value 0, and all cells of its class theirs.
+    fn visit_class(&mut self, root: usize) -> Result<(), NoPair>
+        requires root { root < 2 ^ self.old.frame.variables }
+        requires between { IsBetween self.old root }
+        ensures kept { Kept self.old self.new }
+        ensures passed { MatchResult result (λ _. IsBetween self.new (root + 1)) (λ _. HasNoValues self.old) }
+    {
+        if self.values[root] != WAITING {
+            return Ok(());
+        }
+        self.values[root] = 0;
+        self.stack.push(root as u16).unwrap();
+        self.visit_all()
+    }
+
+    // Visits the cells of the stack, and those found on the way, until none is left.
+    fn visit_all(&mut self) -> Result<(), NoPair>
+        requires { IsGoing self.old (IsOpen self.old) }
+        ensures kept { Kept self.old self.new }
+        ensures came { MatchResult result (λ _. WentOn self.old self.new × (held self.new.stack ≡ [])) (λ _. HasNoValues self.old) }
+    {
+        while let Ok(cell) = self.stack.pop() {
+            let visit = self.frame.visit_of(cell as usize);
+            self.visit_links(visit)?;
+        }
+        Ok(())
+    }
+
+    // Follows all links of a cell, from the assignment with all digits of the group down to the base.
+    fn visit_links(&mut self, visit: Visit) -> Result<(), NoPair>
+        requires visits { Visits self.old.frame.variables self.old.frame.left self.old.frame.right visit }
+        requires valued { slice_index_or self.old.values.now visit.cell 2 < 2 }
+        requires going { IsGoing self.old (IsTouched self.old visit.cell) }
+        ensures kept { Kept self.old self.new }
+        ensures came { MatchResult result (λ _. WentOn self.old self.new) (λ _. HasNoValues self.old) }
+    {
+        let value = self.values[visit.cell];
+        let mut part = visit.group;
+        loop {
+            self.follow_link(visit.base + part, value, visit.other)?;
+            if part == 0 {
+                return Ok(());
+            }
+            part = (part - 1) & visit.group;
+        }
+    }
+
+    // Follows the link of an assignment from a cell of this value to the cell on the other side: one that waits gets its value and is to visit.
+    fn follow_link(&mut self, i: usize, value: u16, other: Side) -> Result<(), NoPair>
+        requires i { i < 2 ^ self.old.frame.variables }
+        requires value { value < 2 }
+        requires room { waiting self.old.values.now + length (held self.old.stack) ≤ length self.old.stack.cells.now }
+        ensures kept { Kept self.old self.new }
+        ensures followed { let other_cell = cell_of self.old.frame.variables self.old.frame.left self.old.frame.right other i in
+            MatchResult result
+            (λ _. Followed (slice_index self.old.table.now i) value other_cell self.old.values.now (held self.old.stack) self.new.values.now (held self.new.stack))
+            (λ _. Conflicts (slice_index self.old.table.now i) value other_cell self.old.values.now) }
+    {
+        let code = self.table[i];
+        if code >= 2 {
+            return Ok(());
+        }
+        let wanted = value ^ code as u16;
+        let cell = self.frame.cell_of(other, i);
+        match self.values[cell] {
+            WAITING => {
+                self.values[cell] = wanted;
+                self.stack.push(cell as u16).unwrap();
+                Ok(())
+            }
+            found if found == wanted => Ok(()),
+            _ => Err(NoPair),
+        }
+    }
+
+    // Writes the codes of the cells of a side into the row of its part.
+    pub fn write_part(&self, side: Side, row: &mut [u8])
+        requires row { length row.old ≡ 2 ^ self.now.frame.variables }
+        requires values { HasValues self.now }
+        ensures { row.new ≡ codes self.now.frame.variables
+            (λ i. slice_index_or self.now.values.now (cell_of self.now.frame.variables self.now.frame.left self.now.frame.right side i) 2) }
+    {
+        for (i, code) in row.iter_mut().enumerate() {
+            *code = self.values[self.frame.cell_of(side, i)] as u8;
+        }
+    }
+}
