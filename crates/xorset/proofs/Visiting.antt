@@ -1,20 +1,14 @@
 -- The links of a cell are followed one by one.
-use Rattle.std.proofs.Common.{◌≡◌, ℕ, ◌+◌, ◌-◌, ◌*◌, ◌^◌, ◌<◌, ◌≤◌, ◌⊎◌, List, [], ◌∷◌, ◌++◌, length, get_or, set, sym, ap, ◌∙◌, inl, inr, arith}
+use Rattle.std.proofs.Common.{◌≡◌, ℕ, ◌+◌, ◌-◌, ◌^◌, ◌<◌, ◌≤◌, ◌⊎◌, List, [], ◌∷◌, ◌++◌, length, get_or, set, sym, ap, ◌∙◌, inl, inr, arith}
 use lib.Bits.{bit_and, and_le_l, and_le_r}
-use Rattle.std.proofs.lemmas.Nat.{pow_below}
 use Rattle.std.proofs.lemmas.List.{get_or_default, length_push}
 use Rattle.std.proofs.lemmas.Bool.{cases_eq}
-use Rattle.tables.proofs.Clearing.{clear_le}
 use Rattle.xorset.specs.Search.{Conflicts, Ends, Followed, Going, NoValues, Remains, Touches, Visits, Went, cell_of, waiting, wanted}
 use Rattle.xorset.specs.declared.frame.Visit.{Visit}
 use Rattle.xorset.proofs.Linking.{among_last, among_more, wanted_small}
 use Rattle.xorset.proofs.Stepping.{reopen, link_none, link_same, link_pushed, link_conflict}
 use Rattle.xorset.proofs.Submasks.{add_below, add-clear, and_inside, next_part}
 use Rattle.xorset.proofs.Writing.{inside, written_kept, written_fewer, written_waiting}
-
--- tables are small
-pub points_small : (n : ℕ) → n ≤ 10 → 2 ^ n < 2048
-points_small n h = pow_below n 11 (omega arith)
 
 -- the state at a turn: from the values and the stack at the visit's start to those now, where the parts of the group from `bound` on are done
 pub record Turning (n : ℕ) (t : ℕ → ℕ) (l r : ℕ) (visit : Visit) (first_vs first_held vs held : List ℕ) (value bound : ℕ) : Type 0 where
@@ -35,13 +29,6 @@ module _ (n : ℕ) (t : ℕ → ℕ) (l r : ℕ) (visit : Visit) (visits : Visit
   ends_at : (part : ℕ) → bit_and part visit.group ≡ part
       → Ends n l r (visit.base + part) visit.cell (cell_of n l r visit.other (visit.base + part))
   ends_at part e = visits.ends (visit.base + part) (assignment_below part e) (add-clear part visit.group visit.base visits.apart e)
-
-  -- its other cell
-  pub other_below : (part : ℕ) → bit_and part visit.group ≡ part → cell_of n l r visit.other (visit.base + part) < 2 * 2 ^ n
-  other_below part e =
-      let i = visit.base + part in
-      let below = assignment_below part e in
-      elim (ends_at part e) [ inl (_, q) ↦ omega (arith, clear_le l i) | inr (_, q) ↦ omega (arith, clear_le r i) ]
 
   module _ (vs₀ held₀ : List ℕ) where
     -- the visit begins

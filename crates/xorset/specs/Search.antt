@@ -17,10 +17,6 @@ pub record Valued (n : ℕ) (t : ℕ → ℕ) (l r : ℕ) (vs : List ℕ) : Type
   pub left : (i : ℕ) → i < 2 ^ n → slice_index_or vs (left_cell r i) 2 ≡ value_code (linked n t r i) (is_one (slice_index_or vs (left_cell r i) 2))
   pub right : (i : ℕ) → i < 2 ^ n → slice_index_or vs (right_cell n l i) 2 ≡ value_code (linked n t l i) (is_one (slice_index_or vs (right_cell n l i) 2))
 
--- the cells of every assignment have codes
-abbrev pub Coded : ℕ → ℕ → ℕ → List ℕ → Type 0
-Coded n l r vs = (i : ℕ) → i < 2 ^ n → (slice_index_or vs (left_cell r i) 2 ≤ 2) × (slice_index_or vs (right_cell n l i) 2 ≤ 2)
-
 -- no values meet the links
 abbrev pub NoValues : ℕ → (ℕ → ℕ) → ℕ → ℕ → Type 0
 NoValues n t l r = (f : ℕ → Bool) → Meets n t l r f (2 ^ n) → ⊥

@@ -27,7 +27,7 @@ impl<'a> Search<'a> {
     ghost use Rattle.tables.specs.Stacks.{held};
     ghost use Rattle.gatesets.specs.Rules.{codes};
     ghost use Rattle.gatesets.specs.Splits.{code};
-    ghost use Rattle.xorset.specs.Search.{cell_of, Coded, Conflicts, Followed, HasNoValues, HasValues, IsBetween, IsGoing, IsOpen, IsTouched, Kept, Marked, Visits, WentOn, waiting};
+    ghost use Rattle.xorset.specs.Search.{cell_of, Conflicts, Followed, HasNoValues, HasValues, IsBetween, IsGoing, IsOpen, IsTouched, Kept, Marked, Visits, WentOn, waiting};
 
     // A search that begins: the cells that have a link wait, and no cell is to visit.
     pub fn new(table: &'a [u8], frame: Frame, values: &'a mut [u16], cells: &'a mut [u16]) -> Self
