@@ -4,7 +4,7 @@ pub mod Labels
 pub mod XorValues
 pub mod XorStill
 pub mod XorKept
-pub mod Submasks
+pub mod Masking
 pub mod Linking
 pub mod Writing
 pub mod Marking

@@ -1,12 +1,14 @@
 -- The steps of the search, said of the search as the program holds it.
-use Rattle.std.proofs.Common.{◌≡◌, ℕ, ◌+◌, ◌^◌, ◌<◌, ◌∙◌}
+use Rattle.std.proofs.Common.{◌≡◌, ℕ, ◌+◌, ◌-◌, ◌^◌, ◌<◌, sym, ap, ◌∙◌, subst}
 use lib.Bits.{bit_and}
 use Rattle.tables.specs.Stacks.{held}
 use Rattle.gatesets.specs.Splits.{code}
 use Rattle.xorset.specs.Search.{Conflicts, Followed, HasNoValues, IsGoing, IsOpen, Kept, Visits, WentOn, cell_of}
 use Rattle.xorset.specs.declared.frame.Visit.{Visit}
 use Rattle.xorset.specs.declared.search.Search.{Search}
-use Rattle.xorset.proofs.Visiting.{Turning, assignment_below, turn_conflict, turn_done}
+use Rattle.xorset.specs.declared.submasks.Submasks.{Submasks}
+use Rattle.xorset.proofs.Masking.{and_inside}
+use Rattle.xorset.proofs.Visiting.{IsBound, Turning, assignment_below, turn_conflict, turn_done, turn_next}
 
 -- what two steps keep is kept
 pub kept_on : (first middle last : Search) → Kept first middle → Kept middle last → Kept first last
@@ -27,20 +29,35 @@ Turns first visit value bound now =
     now.values.now (held now.stack) value bound
 
 module _ (first now : Search) (kept : Kept first now) (visit : Visit) (visits : Visits first.frame.variables first.frame.left first.frame.right visit)
-    (part : ℕ) (whole : bit_and part visit.group ≡ part) where
-  -- the assignment of a part of the group is one of the table's
+    (parts : Submasks) (group : parts.group ≡ visit.group) (part : ℕ) (given : part ≡ bit_and (parts.bound - 1) parts.group) where
+  -- the part that comes is the highest of the visit's group below the bound
+  highest : bit_and (parts.bound - 1) visit.group ≡ part
+  highest = ap (λ x. bit_and (parts.bound - 1) x) (sym group) ∙ sym given
+
+  -- so it is a part of the group
+  pub turn_part : bit_and part visit.group ≡ part
+  turn_part = ap (λ x. bit_and x visit.group) (sym highest) ∙ and_inside (parts.bound - 1) visit.group ∙ highest
+
+  -- and its assignment is one of the table's
   pub turn_inside : visit.base + part < 2 ^ now.frame.variables
   turn_inside =
-      rw kept.frame (assignment_below first.frame.variables (code first.table.now) first.frame.left first.frame.right visit visits part whole)
+      rw kept.frame (assignment_below first.frame.variables (code first.table.now) first.frame.left first.frame.right visit visits part turn_part)
 
-  module _ (value : ℕ) (turn : Turns first visit value (part + 1) now) where
+  module _ (value : ℕ) (bound : IsBound visit.group parts.bound) (turn : Turns first visit value parts.bound now) where
+    -- the parts above it are done
+    above : Turns first visit value (part + 1) now
+    above =
+        subst (λ x. Turns first visit value (x + 1) now) highest
+        (turn_next first.frame.variables (code first.table.now) first.frame.left first.frame.right visit visits first.values.now (held first.stack)
+        now.values.now (held now.stack) value parts.bound bound turn)
+
     -- its link is followed
     pub turn_followed : (next : Search) → Followed (code now.table.now (visit.base + part)) value
         (cell_of now.frame.variables now.frame.left now.frame.right visit.other (visit.base + part)) now.values.now (held now.stack) next.values.now (held next.stack)
         → Turns first visit value part next
     turn_followed next followed =
         turn_done first.frame.variables (code first.table.now) first.frame.left first.frame.right visit visits first.values.now (held first.stack)
-        now.values.now (held now.stack) value part whole turn next.values.now (held next.stack) (rw (kept.frame, kept.table) at followed)
+        now.values.now (held now.stack) value part turn_part above next.values.now (held next.stack) (rw (kept.frame, kept.table) at followed)
 
     -- or leads to a cell of the other value
     pub turn_refused : Conflicts (code now.table.now (visit.base + part)) value
@@ -48,4 +65,4 @@ module _ (first now : Search) (kept : Kept first now) (visit : Visit) (visits : 
         → HasNoValues first
     turn_refused conflict =
         turn_conflict first.frame.variables (code first.table.now) first.frame.left first.frame.right visit visits first.values.now (held first.stack)
-        now.values.now (held now.stack) value part whole turn (rw (kept.frame, kept.table) at conflict)
+        now.values.now (held now.stack) value part turn_part above (rw (kept.frame, kept.table) at conflict)

@@ -1,14 +1,18 @@
 -- The links of a cell are followed one by one.
 use Rattle.std.proofs.Common.{◌≡◌, ℕ, ◌+◌, ◌-◌, ◌^◌, ◌<◌, ◌≤◌, ◌⊎◌, List, [], ◌∷◌, ◌++◌, length, get_or, set, sym, ap, ◌∙◌, inl, inr, arith}
-use lib.Bits.{bit_and, and_le_l, and_le_r}
+use lib.Bits.{bit_and, and_le_l, and_le_r, and_self}
 use Rattle.std.proofs.lemmas.List.{get_or_default, length_push}
 use Rattle.std.proofs.lemmas.Bool.{cases_eq}
 use Rattle.xorset.specs.Search.{Conflicts, Ends, Followed, Going, NoValues, Remains, Touches, Visits, Went, cell_of, waiting, wanted}
 use Rattle.xorset.specs.declared.frame.Visit.{Visit}
 use Rattle.xorset.proofs.Linking.{among_last, among_more, wanted_small}
 use Rattle.xorset.proofs.Stepping.{reopen, link_none, link_same, link_pushed, link_conflict}
-use Rattle.xorset.proofs.Submasks.{add_below, add-clear, and_inside, next_part}
+use Rattle.xorset.proofs.Masking.{add_below, add-clear, and_inside, next_part}
 use Rattle.xorset.proofs.Writing.{inside, written_kept, written_fewer, written_waiting}
+
+-- the numbers below which parts of a group are still to come: one above the group, or a part of it
+abbrev pub IsBound : ℕ → ℕ → Type 0
+IsBound group bound = (bound ≡ group + 1) ⊎ (bit_and bound group ≡ bound)
 
 -- the state at a turn: from the values and the stack at the visit's start to those now, where the parts of the group from `bound` on are done
 pub record Turning (n : ℕ) (t : ℕ → ℕ) (l r : ℕ) (visit : Visit) (first_vs first_held vs held : List ℕ) (value bound : ℕ) : Type 0 where
@@ -117,26 +121,27 @@ module _ (n : ℕ) (t : ℕ → ℕ) (l r : ℕ) (visit : Visit) (visits : Visit
           (assignment_below part whole) link (ends_at part whole) valued conflict
           (λ e. differs (e ∙ ap (λ v. wanted v (t (visit.base + part))) turn.value_is))
 
-    -- the last part is done: the visit is over
-    pub turn_last : (vs held : List ℕ) (value part : ℕ) → part ≡ 0 → Turning n t l r visit vs₀ held₀ vs held value part → Went n t l r vs₀ held₀ vs held
-    turn_last vs held value part none turn =
+    -- no part is left: the visit is over
+    pub turn_last : (vs held : List ℕ) (value bound : ℕ) → bound ≡ 0 → Turning n t l r visit vs₀ held₀ vs held value bound → Went n t l r vs₀ held₀ vs held
+    turn_last vs held value bound none turn =
         record {
           going = reopen n t l r vs held _ _ turn.going (λ i _ _ o. inr (elim o [ inl w ↦ w | inr (_, lt) ↦ absurd (let z : ⊥ = omega arith in z) ]));
           fewer = turn.fewer;
           less = turn.less;
         }
 
-    -- the next part below is (part - 1) & group
-    pub turn_next : (vs held : List ℕ) (value part : ℕ) → bit_and part visit.group ≡ part → Turning n t l r visit vs₀ held₀ vs held value part
-        → Turning n t l r visit vs₀ held₀ vs held value (bit_and (part - 1) visit.group + 1)
-    turn_next vs held value part whole turn =
+    -- the next part is the highest below the bound
+    pub turn_next : (vs held : List ℕ) (value bound : ℕ) → IsBound visit.group bound → Turning n t l r visit vs₀ held₀ vs held value bound
+        → Turning n t l r visit vs₀ held₀ vs held value (bit_and (bound - 1) visit.group + 1)
+    turn_next vs held value bound shape turn =
         record {
-          going = reopen n t l r vs held _ _ turn.going (λ i _ _ o. inr (elim o [ inl w ↦ inl w | inr (e, lt) ↦ inr (e, down i lt) ]));
+          going = reopen n t l r vs held _ _ turn.going (λ i _ _ o. inr (elim o [ inl w ↦ inl w | inr (e, lt) ↦ inr (e, down i lt shape) ]));
           fewer = turn.fewer;
           less = turn.less;
           value_is = turn.value_is;
           small = turn.small;
         }
       where
-        down : (i : ℕ) → bit_and i visit.group < part → bit_and i visit.group < bit_and (part - 1) visit.group + 1
-        down i lt = omega (arith, next_part part visit.group (bit_and i visit.group) whole (and_inside i visit.group) lt)
+        down : (i : ℕ) → bit_and i visit.group < bound → IsBound visit.group bound → bit_and i visit.group < bit_and (bound - 1) visit.group + 1
+        down i lt (inl whole) = let same : bound - 1 ≡ visit.group = omega arith in rw same (omega (arith, and_self visit.group, and_le_r i visit.group))
+        down i lt (inr part) = omega (arith, next_part bound visit.group (bit_and i visit.group) part (and_inside i visit.group) lt)

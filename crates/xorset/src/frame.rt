@@ -14,7 +14,7 @@ pub enum Side {
 pub struct Visit {
     pub cell: usize,
     pub base: usize,
-    pub group: usize,
+    pub group: u16,
     pub other: Side,
 }
 
@@ -55,14 +55,14 @@ impl Frame {
             Visit {
                 cell,
                 base: cell,
-                group: self.right as usize,
+                group: self.right,
                 other: Side::Right,
             }
         } else {
             Visit {
                 cell,
                 base: cell - self.points,
-                group: self.left as usize,
+                group: self.left,
                 other: Side::Left,
             }
         }

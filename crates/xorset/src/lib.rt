@@ -3,6 +3,7 @@
 
 mod frame;
 mod search;
+mod submasks;
 mod xor;
 
 pub use xor::Xor;

@@ -1,6 +1,7 @@
 ghost use Rattle.std.specs.Prelude.{◌≡◌, ◌*◌, ◌^◌, length};
 
 use super::frame::{Frame, Side, Visit};
+use super::submasks::Submasks;
 use gatesets::NoPair;
 use tables::Stack;
 
@@ -109,14 +110,10 @@ impl<'a> Search<'a> {
         ensures came { MatchResult result (λ _. WentOn self.old self.new) (λ _. HasNoValues self.old) }
     {
         let value = self.values[visit.cell];
-        let mut part = visit.group;
-        loop {
+        for part in Submasks::of(visit.group) {
             self.follow_link(visit.base + part, value, visit.other)?;
-            if part == 0 {
-                return Ok(());
-            }
-            part = (part - 1) & visit.group;
         }
+        Ok(())
     }
 
     // Follows the link of an assignment from a cell of this value to the cell on the other side: one that waits gets its value and is to visit.
