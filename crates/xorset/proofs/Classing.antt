@@ -1,15 +1,16 @@
 -- The cells of one class are visited, class after class.
-use Rattle.std.proofs.Common.{◌≡◌, ℕ, ◌<◌, List, [], ◌∷◌, ◌++◌, get_or, set, sym, refl, ap, ◌∙◌, subst, inl, inr, arith}
+use Rattle.std.proofs.Common.{◌≡◌, ℕ, ◌<◌, List, [], ◌∷◌, ◌++◌, get_or, set, sym, ap, ◌∙◌, subst, inl, inr, arith}
 use Rattle.std.proofs.lemmas.Bool.{cases_lt}
-use Rattle.xorset.specs.Search.{Among, Between, Going, IsCell, Touches, Waits}
-use Rattle.xorset.proofs.Linking.{among_last}
+use Rattle.xorset.specs.Search.{Between, Going, IsCell, Touches, Waits}
+use Rattle.std.specs.List.{Contains}
+use Rattle.std.proofs.lemmas.List.Elements.{Contains-push}
 use Rattle.xorset.proofs.Stepping.{pop, root}
 
 module _ (n : ℕ) (t : ℕ → ℕ) (l r : ℕ) where
   module _ (vs held rest : List ℕ) (c : ℕ) (e : held ≡ rest ++ c ∷ []) where
     -- the latest cell c of the stack has a value
     pub popped_valued : Going n t l r vs held (Waits n l r held) → get_or vs c 2 < 2
-    popped_valued g = g.stacked c (subst (λ x. Among c x) (sym e) (among_last c rest c refl))
+    popped_valued g = g.stacked c (subst (λ x. Contains x c) (sym e) (Contains-push rest c))
 
     -- so it is the cell of an assignment
     pub popped_cell : Going n t l r vs held (Waits n l r held) → IsCell n l r c

@@ -3,7 +3,7 @@ use Rattle.std.proofs.Common.{◌≡◌, ℕ, ◌+◌, ◌-◌, ◌^◌, ◌<◌
 use lib.Bits.{bit_and}
 use Rattle.tables.specs.Stacks.{held}
 use Rattle.gatesets.specs.Splits.{code}
-use Rattle.xorset.specs.Search.{Conflicts, Followed, HasNoValues, IsGoing, IsOpen, Kept, Visits, WentOn, cell_of}
+use Rattle.xorset.specs.Search.{FollowsLink, HasNoValues, HasVisit, IsGoing, IsOpen, Kept, LinkConflicts, WentOn}
 use Rattle.xorset.specs.declared.frame.Visit.{Visit}
 use Rattle.xorset.specs.declared.search.Search.{Search}
 use Rattle.xorset.specs.declared.submasks.Submasks.{Submasks}
@@ -28,7 +28,7 @@ Turns first visit value bound now =
     Turning first.frame.variables (code first.table.now) first.frame.left first.frame.right visit first.values.now (held first.stack)
     now.values.now (held now.stack) value bound
 
-module _ (first now : Search) (kept : Kept first now) (visit : Visit) (visits : Visits first.frame.variables first.frame.left first.frame.right visit)
+module _ (first now : Search) (kept : Kept first now) (visit : Visit) (visits : HasVisit first.frame visit)
     (parts : Submasks) (group : parts.group ≡ visit.group) (part : ℕ) (given : part ≡ bit_and (parts.bound - 1) parts.group) where
   -- the part that comes is the highest of the visit's group below the bound
   highest : bit_and (parts.bound - 1) visit.group ≡ part
@@ -52,17 +52,13 @@ module _ (first now : Search) (kept : Kept first now) (visit : Visit) (visits : 
         now.values.now (held now.stack) value parts.bound bound turn)
 
     -- its link is followed
-    pub turn_followed : (next : Search) → Followed (code now.table.now (visit.base + part)) value
-        (cell_of now.frame.variables now.frame.left now.frame.right visit.other (visit.base + part)) now.values.now (held now.stack) next.values.now (held next.stack)
-        → Turns first visit value part next
+    pub turn_followed : (next : Search) → FollowsLink now (visit.base + part) value visit.other next → Turns first visit value part next
     turn_followed next followed =
         turn_done first.frame.variables (code first.table.now) first.frame.left first.frame.right visit visits first.values.now (held first.stack)
         now.values.now (held now.stack) value part turn_part above next.values.now (held next.stack) (rw (kept.frame, kept.table) at followed)
 
     -- or leads to a cell of the other value
-    pub turn_refused : Conflicts (code now.table.now (visit.base + part)) value
-        (cell_of now.frame.variables now.frame.left now.frame.right visit.other (visit.base + part)) now.values.now
-        → HasNoValues first
+    pub turn_refused : LinkConflicts now (visit.base + part) value visit.other → HasNoValues first
     turn_refused conflict =
         turn_conflict first.frame.variables (code first.table.now) first.frame.left first.frame.right visit visits first.values.now (held first.stack)
         now.values.now (held now.stack) value part turn_part above (rw (kept.frame, kept.table) at conflict)

@@ -1,11 +1,13 @@
 -- The links of a cell are followed one by one.
-use Rattle.std.proofs.Common.{◌≡◌, ℕ, ◌+◌, ◌-◌, ◌^◌, ◌<◌, ◌≤◌, ◌⊎◌, List, [], ◌∷◌, ◌++◌, length, get_or, set, sym, ap, ◌∙◌, inl, inr, arith}
+use Rattle.std.proofs.Common.{◌≡◌, ℕ, ◌+◌, ◌-◌, ◌^◌, ◌<◌, ◌≤◌, ◌⊎◌, List, [], ◌∷◌, ◌++◌, length, get_or, set, sym, ap, ◌∙◌, subst, inl, inr, arith}
 use lib.Bits.{bit_and, and_le_l, and_le_r, and_self}
 use Rattle.std.proofs.lemmas.List.{get_or_default, length_push}
 use Rattle.std.proofs.lemmas.Bool.{cases_eq}
+use Rattle.std.specs.List.{Contains}
+use Rattle.std.proofs.lemmas.List.Elements.{Contains-append_left, Contains-push}
 use Rattle.xorset.specs.Search.{Conflicts, Ends, Followed, Going, NoValues, Remains, Touches, Visits, Went, cell_of, waiting, wanted}
 use Rattle.xorset.specs.declared.frame.Visit.{Visit}
-use Rattle.xorset.proofs.Linking.{among_last, among_more, wanted_small}
+use Rattle.xorset.proofs.Linking.{wanted_small}
 use Rattle.xorset.proofs.Stepping.{reopen, link_none, link_same, link_pushed, link_conflict}
 use Rattle.xorset.proofs.Masking.{add_below, add-clear, and_inside, next_part}
 use Rattle.xorset.proofs.Writing.{inside, written_kept, written_fewer, written_waiting}
@@ -67,8 +69,8 @@ module _ (n : ℕ) (t : ℕ → ℕ) (l r : ℕ) (visit : Visit) (visits : Visit
 
       -- a cell more on the stack leaves the links that remain
       more : (j y : ℕ) → Remains n l r held visit.group visit.base part j → Remains n l r (held ++ y ∷ []) visit.group visit.base part j
-      more j y (inl (inl a)) = inl (inl (among_more _ held y a))
-      more j y (inl (inr a)) = inl (inr (among_more _ held y a))
+      more j y (inl (inl a)) = inl (inl (Contains-append_left held (y ∷ []) _ a))
+      more j y (inl (inr a)) = inl (inr (Contains-append_left held (y ∷ []) _ a))
       more j y (inr e) = inr e
 
       -- the cell visited has a value
@@ -107,7 +109,7 @@ module _ (n : ℕ) (t : ℕ → ℕ) (l r : ℕ) (visit : Visit) (visits : Visit
               record {
                 going = link_pushed n t l r vs held i visit.cell other _ _ turn.going (assignment_below part whole) link (ends_at part whole) valued wait
                     (λ j o. elim (rest j o) [ inl q ↦ inl q | inr m ↦ inr (more j other m) ])
-                    (λ j e. elim e [ inl q ↦ inl (inl (among_last _ held other (sym q))) | inr q ↦ inl (inr (among_last _ held other (sym q))) ]);
+                    (λ j e. elim e [ inl q ↦ inl (inl (subst (Contains (held ++ other ∷ [])) (sym q) (Contains-push held other))) | inr q ↦ inl (inr (subst (Contains (held ++ other ∷ [])) (sym q) (Contains-push held other))) ]);
                 fewer = λ c e. turn.fewer c (written_fewer vs other v wait small c e);
                 less = omega (arith, turn.less, written_waiting vs other v wait small, length_push held other);
                 value_is = written_kept vs other v wait small visit.cell valued ∙ turn.value_is;

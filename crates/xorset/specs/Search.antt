@@ -1,11 +1,13 @@
 -- The search for values of the cells: what holds while it runs, and what it finds.
 -- The values stand in a row with a number for each cell: 2 where the cell has no link, 3 where it waits for a value, or else its value.
-use Rattle.std.specs.Prelude.{◌≡◌, ℕ, ◌+◌, ◌*◌, ◌^◌, ◌<◌, ◌≤◌, Bool, true, false, ◌⊎◌, List, [], ◌∷◌, ◌++◌, length, count_by, ◌≢◌, bit_and, if◌then◌else◌, nat_eq, nat_lt, slice_index_or, slice_set}
+use Rattle.std.specs.Prelude.{◌≡◌, ℕ, ◌+◌, ◌*◌, ◌^◌, ◌<◌, ◌≤◌, Bool, true, false, ◌⊎◌, List, [], ◌∷◌, ◌++◌, length, Contains, count_by, ◌≢◌, bit_and, if◌then◌else◌, nat_eq, nat_lt, slice_index_or, slice_set}
 use Rattle.tables.specs.Groups.{clear, within}
 use Rattle.xorset.specs.Cells.{Values, Meets, Together, is_one, left_cell, right_cell, xor}
 use Rattle.xorset.specs.Xor.{linked, value_code}
 use Rattle.tables.specs.Stacks.{held}
+use Rattle.gatesets.specs.Rules.{codes}
 use Rattle.gatesets.specs.Splits.{code}
+use Rattle.xorset.specs.declared.frame.Frame.{Frame}
 use Rattle.xorset.specs.declared.frame.Side.{Side}
 use Rattle.xorset.specs.declared.frame.Side.TheVariants.{Left, Right}
 use Rattle.xorset.specs.declared.frame.Visit.{Visit}
@@ -24,11 +26,6 @@ NoValues n t l r = (f : ℕ → Bool) → Meets n t l r f (2 ^ n) → ⊥
 -- how many cells wait
 abbrev pub waiting : List ℕ → ℕ
 waiting vs = count_by (λ v. nat_eq v 3) vs
-
--- an element of a list
-abbrev pub Among : ℕ → List ℕ → Type 0
-Among c [] = ⊥
-Among c (x ∷ xs) = (x ≡ c) ⊎ Among c xs
 
 -- the number of a cell, which has a link or none, in the search
 abbrev pub Stands : Bool → ℕ → Type 0
@@ -85,12 +82,12 @@ pub record Going (n : ℕ) (t : ℕ → ℕ) (l r : ℕ) (vs held : List ℕ) (o
   pub extends : (f : ℕ → Bool) → Meets n t l r f (2 ^ n) → Extended n t l r vs
   pub links : (i : ℕ) → i < 2 ^ n → t i < 2 → Untouched n l r vs i ⊎ (Settled n t l r vs i ⊎ open_at i)
   pub rooted : (c : ℕ) → slice_index_or vs c 2 < 2 → Rooted n t l r vs c
-  pub stacked : (c : ℕ) → Among c held → slice_index_or vs c 2 < 2
+  pub stacked : (c : ℕ) → Contains held c → slice_index_or vs c 2 < 2
   pub room : waiting vs + length held ≤ 2 * 2 ^ n
 
 -- a cell of i is still to visit
 abbrev pub Waits : ℕ → ℕ → ℕ → List ℕ → ℕ → Type 0
-Waits n l r held i = Among (left_cell r i) held ⊎ Among (right_cell n l i) held
+Waits n l r held i = Contains held (left_cell r i) ⊎ Contains held (right_cell n l i)
 
 -- or is the cell that is visited
 abbrev pub Touches : ℕ → ℕ → ℕ → List ℕ → ℕ → ℕ → Type 0
@@ -134,7 +131,23 @@ pub record Between (n : ℕ) (t : ℕ → ℕ) (l r k : ℕ) (vs held : List ℕ
   pub going : Going n t l r vs [] (Waits n l r [])
   pub past : (c : ℕ) → c < k → slice_index_or vs c 2 ≢ 3
 
--- the same of a search as the program holds it: its table and its frame, the values in its row and the cells on its stack
+-- the same of a frame and a search as the program holds them: a search has a table and a frame, the values in its row and the cells on its stack
+
+-- the cell of an assignment on a side
+abbrev pub cell_at : Frame → Side → ℕ → ℕ
+cell_at frame = cell_of frame.variables frame.left frame.right
+
+-- a cell of an assignment
+abbrev pub HasCell : Frame → ℕ → Type 0
+HasCell frame = IsCell frame.variables frame.left frame.right
+
+-- a visit of a cell
+abbrev pub HasVisit : Frame → Visit → Type 0
+HasVisit frame = Visits frame.variables frame.left frame.right
+
+-- the links of the assignments below m are marked
+abbrev pub HasMarked : Frame → List ℕ → ℕ → List ℕ → Type 0
+HasMarked frame table = Marked frame.variables (code table) frame.left frame.right
 
 -- a search keeps its table and its frame
 pub record Kept (before after : Search) : Type 0 where
@@ -143,7 +156,7 @@ pub record Kept (before after : Search) : Type 0 where
 
 -- the search so far, and which links may still be open
 abbrev pub IsGoing : Search → (ℕ → Type 0) → Type 0
-IsGoing s open_at = Going s.frame.variables (code s.table.now) s.frame.left s.frame.right s.values.now (held s.stack) open_at
+IsGoing s = Going s.frame.variables (code s.table.now) s.frame.left s.frame.right s.values.now (held s.stack)
 
 -- a cell of i is still to visit
 abbrev pub IsOpen : Search → ℕ → Type 0
@@ -152,6 +165,19 @@ IsOpen s = Waits s.frame.variables s.frame.left s.frame.right (held s.stack)
 -- or is the cell that is visited
 abbrev pub IsTouched : Search → ℕ → ℕ → Type 0
 IsTouched s = Touches s.frame.variables s.frame.left s.frame.right (held s.stack)
+
+-- the cells that wait have room on the stack
+abbrev pub HasRoom : Search → Type 0
+HasRoom s = waiting s.values.now + length (held s.stack) ≤ length s.stack.cells.now
+
+-- the link of i is followed from a cell of this value to the cell of this side
+abbrev pub FollowsLink : Search → ℕ → ℕ → Side → Search → Type 0
+FollowsLink before i value side after =
+    Followed (code before.table.now i) value (cell_at before.frame side i) before.values.now (held before.stack) after.values.now (held after.stack)
+
+-- or leads to a cell of the other value
+abbrev pub LinkConflicts : Search → ℕ → ℕ → Side → Type 0
+LinkConflicts s i value side = Conflicts (code s.table.now i) value (cell_at s.frame side i) s.values.now
 
 -- what a part of the search leads to
 abbrev pub WentOn : Search → Search → Type 0
@@ -170,3 +196,7 @@ HasValues s = Valued s.frame.variables (code s.table.now) s.frame.left s.frame.r
 -- or there are none
 abbrev pub HasNoValues : Search → Type 0
 HasNoValues s = NoValues s.frame.variables (code s.table.now) s.frame.left s.frame.right
+
+-- the codes of the cells of a side
+abbrev pub part_codes : Search → Side → List ℕ
+part_codes s side = codes s.frame.variables (λ i. slice_index_or s.values.now (cell_at s.frame side i) 2)

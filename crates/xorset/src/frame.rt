@@ -32,12 +32,12 @@ pub struct Frame {
 }
 
 impl Frame {
-    ghost use Rattle.xorset.specs.Search.{IsCell, Visits, cell_of};
+    ghost use Rattle.xorset.specs.Search.{HasCell, HasVisit, cell_at};
 
     // The cell of an assignment on a side: left cells are numbered first.
     pub fn cell_of(self, side: Side, i: usize) -> usize
         requires { i < 2 ^ self.variables }
-        ensures { result ≡ cell_of self.variables self.left self.right side i }
+        ensures { result ≡ cell_at self side i }
     {
         match side {
             Side::Left => clear_group(self.right, i),
@@ -47,8 +47,8 @@ impl Frame {
 
     // How a cell is visited.
     pub fn visit_of(self, cell: usize) -> Visit
-        requires { IsCell self.variables self.left self.right cell }
-        ensures visits { Visits self.variables self.left self.right result }
+        requires { HasCell self cell }
+        ensures visits { HasVisit self result }
         ensures cell { result.cell ≡ cell }
     {
         if cell < self.points {

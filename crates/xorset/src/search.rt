@@ -14,21 +14,19 @@ const WAITING: u16 = 3;
 // A search for values of the cells that meet the links of a table: a number for each cell, and a stack of the cells to visit.
 #[derive(Drop)]
 pub struct Search<'a> {
-    pub table: &'a [u8],
-    pub frame: Frame,
-    pub values: &'a mut [u16],
-    pub stack: Stack<'a, u16>,
+    table: &'a [u8],
+    frame: Frame,
+    values: &'a mut [u16],
+    stack: Stack<'a, u16>,
     ghost table_long: { length table.now ≡ 2 ^ frame.variables },
     ghost values_long: { length values.now ≡ 2 * 2 ^ frame.variables },
     ghost stack_long: { length stack.cells.now ≡ 2 * 2 ^ frame.variables },
 }
 
 impl<'a> Search<'a> {
-    ghost use Rattle.std.specs.Prelude.{◌+◌, ◌<◌, ◌≤◌, [], MatchResult, slice_index, slice_index_or};
+    ghost use Rattle.std.specs.Prelude.{◌+◌, ◌<◌, ◌≤◌, [], MatchResult, slice_index_or};
     ghost use Rattle.tables.specs.Stacks.{held};
-    ghost use Rattle.gatesets.specs.Rules.{codes};
-    ghost use Rattle.gatesets.specs.Splits.{code};
-    ghost use Rattle.xorset.specs.Search.{cell_of, Conflicts, Followed, HasNoValues, HasValues, IsBetween, IsGoing, IsOpen, IsTouched, Kept, Marked, Visits, WentOn, waiting};
+    ghost use Rattle.xorset.specs.Search.{FollowsLink, HasMarked, HasNoValues, HasRoom, HasValues, HasVisit, IsBetween, IsGoing, IsOpen, IsTouched, Kept, LinkConflicts, WentOn, part_codes};
 
     // A search that begins: the cells that have a link wait, and no cell is to visit.
     pub fn new(table: &'a [u8], frame: Frame, values: &'a mut [u16], cells: &'a mut [u16]) -> Self
@@ -50,7 +48,7 @@ impl<'a> Search<'a> {
     fn mark_links(table: &[u8], frame: Frame, values: &mut [u16])
         requires table { length table.now ≡ 2 ^ frame.variables }
         requires values { length values.old ≡ 2 * 2 ^ frame.variables }
-        ensures { Marked frame.variables (code table.now) frame.left frame.right (2 ^ frame.variables) values.new }
+        ensures { HasMarked frame table.now (2 ^ frame.variables) values.new }
     {
         values.fill(FREE);
         for (i, code) in table.iter().enumerate() {
@@ -103,7 +101,7 @@ impl<'a> Search<'a> {
 
     // Follows all links of a cell, from the assignment with all digits of the group down to the base.
     fn visit_links(&mut self, visit: Visit) -> Result<(), NoPair>
-        requires visits { Visits self.old.frame.variables self.old.frame.left self.old.frame.right visit }
+        requires visits { HasVisit self.old.frame visit }
         requires valued { slice_index_or self.old.values.now visit.cell 2 < 2 }
         requires going { IsGoing self.old (IsTouched self.old visit.cell) }
         ensures kept { Kept self.old self.new }
@@ -120,12 +118,9 @@ impl<'a> Search<'a> {
     fn follow_link(&mut self, i: usize, value: u16, other: Side) -> Result<(), NoPair>
         requires i { i < 2 ^ self.old.frame.variables }
         requires value { value < 2 }
-        requires room { waiting self.old.values.now + length (held self.old.stack) ≤ length self.old.stack.cells.now }
+        requires room { HasRoom self.old }
         ensures kept { Kept self.old self.new }
-        ensures followed { let other_cell = cell_of self.old.frame.variables self.old.frame.left self.old.frame.right other i in
-            MatchResult result
-            (λ _. Followed (slice_index self.old.table.now i) value other_cell self.old.values.now (held self.old.stack) self.new.values.now (held self.new.stack))
-            (λ _. Conflicts (slice_index self.old.table.now i) value other_cell self.old.values.now) }
+        ensures followed { MatchResult result (λ _. FollowsLink self.old i value other self.new) (λ _. LinkConflicts self.old i value other) }
     {
         let code = self.table[i];
         if code >= 2 {
@@ -148,8 +143,7 @@ impl<'a> Search<'a> {
     pub fn write_part(&self, side: Side, row: &mut [u8])
         requires row { length row.old ≡ 2 ^ self.now.frame.variables }
         requires values { HasValues self.now }
-        ensures { row.new ≡ codes self.now.frame.variables
-            (λ i. slice_index_or self.now.values.now (cell_of self.now.frame.variables self.now.frame.left self.now.frame.right side i) 2) }
+        ensures { row.new ≡ part_codes self.now side }
     {
         for (i, code) in row.iter_mut().enumerate() {
             *code = self.values[self.frame.cell_of(side, i)] as u8;
