@@ -146,8 +146,8 @@ abbrev pub HasVisit : Frame → Visit → Type 0
 HasVisit frame = Visits frame.variables frame.left frame.right
 
 -- the links of the assignments below m are marked
-abbrev pub HasMarked : Frame → List ℕ → ℕ → List ℕ → Type 0
-HasMarked frame table = Marked frame.variables (code table) frame.left frame.right
+abbrev pub IsMarked : Frame → List ℕ → ℕ → List ℕ → Type 0
+IsMarked frame table = Marked frame.variables (code table) frame.left frame.right
 
 -- a search keeps its table and its frame
 pub record Kept (before after : Search) : Type 0 where

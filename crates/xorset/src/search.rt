@@ -26,7 +26,7 @@ pub struct Search<'a> {
 impl<'a> Search<'a> {
     ghost use Rattle.std.specs.Prelude.{◌+◌, ◌<◌, ◌≤◌, [], MatchResult, slice_index_or};
     ghost use Rattle.tables.specs.Stacks.{held};
-    ghost use Rattle.xorset.specs.Search.{FollowsLink, HasMarked, HasNoValues, HasRoom, HasValues, HasVisit, IsBetween, IsGoing, IsOpen, IsTouched, Kept, LinkConflicts, WentOn, part_codes};
+    ghost use Rattle.xorset.specs.Search.{FollowsLink, IsMarked, HasNoValues, HasRoom, HasValues, HasVisit, IsBetween, IsGoing, IsOpen, IsTouched, Kept, LinkConflicts, WentOn, part_codes};
 
     // A search that begins: the cells that have a link wait, and no cell is to visit.
     pub fn new(table: &'a [u8], frame: Frame, values: &'a mut [u16], cells: &'a mut [u16]) -> Self
@@ -48,7 +48,7 @@ impl<'a> Search<'a> {
     fn mark_links(table: &[u8], frame: Frame, values: &mut [u16])
         requires table { length table.now ≡ 2 ^ frame.variables }
         requires values { length values.old ≡ 2 * 2 ^ frame.variables }
-        ensures { HasMarked frame table.now (2 ^ frame.variables) values.new }
+        ensures { IsMarked frame table.now (2 ^ frame.variables) values.new }
     {
         values.fill(FREE);
         for (i, code) in table.iter().enumerate() {

@@ -1,7 +1,7 @@
 -- Each turn marks the two cells of a link.
 use Rattle.std.proofs.Common.{◌≡◌, ℕ, ◌+◌, ◌*◌, ◌^◌, ◌<◌, length, sym, subst, arith}
 use Rattle.gatesets.specs.Splits.{code}
-use Rattle.xorset.specs.Search.{HasMarked}
+use Rattle.xorset.specs.Search.{IsMarked}
 use Rattle.xorset.proofs.Marking.{mark_none, mark_skip, mark_turn}
 use Rattle.xorset.proofs.search.Search.mark_links.Goals as goal
 use Rattle.xorset.proofs.search.Search.mark_links.Goals.{then-code-lt2, else-code-lt2}
@@ -22,7 +22,7 @@ loop-i-preserved c =
       | then-code-lt2 w ↦ mark_turn frame.variables (code c.args.table.now) frame.left frame.right c.loop-i.values c.if-code-lt2.values i
           w.cell_of.result w.cell_of-then-code-lt2.result c.loop-i.invariant long below w.if-code-lt2.true w.cell_of.ensures
           w.cell_of-then-code-lt2.ensures w.values-is
-      | else-code-lt2 w ↦ subst (HasMarked frame c.args.table.now (i + 1)) (sym w.values-is)
+      | else-code-lt2 w ↦ subst (IsMarked frame c.args.table.now (i + 1)) (sym w.values-is)
           (mark_skip frame.variables (code c.args.table.now) frame.left frame.right c.loop-i.values i c.loop-i.invariant w.if-code-lt2.false)
     ]
 
@@ -30,4 +30,4 @@ pub returns : goal.returns
 returns c =
     let frame = c.args.frame in
     let all : c.loop-i.i ≡ 2 ^ frame.variables = omega (arith, c.requires.table) in
-    subst (λ m. HasMarked frame c.args.table.now m c.loop-i.values) all c.loop-i.invariant
+    subst (λ m. IsMarked frame c.args.table.now m c.loop-i.values) all c.loop-i.invariant
