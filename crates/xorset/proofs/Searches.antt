@@ -1,12 +1,13 @@
 -- The steps of the search, said of the search as the program holds it.
-use Rattle.std.proofs.Common.{◌≡◌, ℕ, ◌+◌, ◌-◌, ◌^◌, ◌<◌, sym, ap, ◌∙◌, subst}
+use Rattle.std.proofs.Common.{◌≡◌, ℕ, ◌+◌, ◌-◌, ◌^◌, ◌<◌, List, [], ◌∷◌, ◌++◌, get_or, sym, ap, ◌∙◌, subst}
 use lib.Bits.{bit_and}
 use Rattle.tables.specs.Stacks.{held}
 use Rattle.gatesets.specs.Splits.{code}
-use Rattle.xorset.specs.Search.{FollowsLink, HasNoValues, HasVisit, IsGoing, IsOpen, Kept, LinkConflicts, WentOn}
+use Rattle.xorset.specs.Search.{FollowsLink, Going, HasCell, HasNoValues, HasVisit, IsGoing, IsOpen, Kept, LinkConflicts, Touches, WentOn}
 use Rattle.xorset.specs.declared.frame.Visit.{Visit}
 use Rattle.xorset.specs.declared.search.Search.{Search}
 use Rattle.xorset.specs.declared.submasks.Submasks.{Submasks}
+use Rattle.xorset.proofs.Classing.{popped, popped_cell, popped_valued}
 use Rattle.xorset.proofs.Masking.{and_inside}
 use Rattle.xorset.proofs.Visiting.{IsBound, Turning, assignment_below, turn_conflict, turn_done, turn_next}
 
@@ -14,13 +15,33 @@ use Rattle.xorset.proofs.Visiting.{IsBound, Turning, assignment_below, turn_conf
 pub kept_on : (first middle last : Search) → Kept first middle → Kept middle last → Kept first last
 kept_on first middle last before after = record { table = after.table ∙ before.table; frame = after.frame ∙ before.frame }
 
--- a search that went on goes on
-pub went_going : (first now : Search) → Kept first now → WentOn first now → IsGoing now (IsOpen now)
-went_going first now kept went = rw (kept.frame, kept.table) went.going
-
 -- a table without values had none before
 pub none_before : (first now : Search) → Kept first now → HasNoValues now → HasNoValues first
 none_before first now kept none = rw (kept.frame, kept.table) at none
+
+-- the latest cell of the stack is taken, where the search went on
+module _ (first now : Search) (kept : Kept first now) (went : WentOn first now) (rest : List ℕ) (cell : ℕ) (last : held now.stack ≡ rest ++ cell ∷ []) where
+  -- the search goes on
+  going : IsGoing now (IsOpen now)
+  going = rw (kept.frame, kept.table) went.going
+
+  -- the cell is one of an assignment
+  pub latest_cell : HasCell now.frame cell
+  latest_cell =
+      popped_cell now.frame.variables (code now.table.now) now.frame.left now.frame.right now.values.now (held now.stack) rest cell last going
+
+  -- it has a value
+  pub latest_valued : (visited : ℕ) → visited ≡ cell → get_or now.values.now visited 2 < 2
+  latest_valued visited same =
+      let vs : List ℕ = now.values.now in
+      subst (λ x. get_or vs x 2 < 2) (sym same)
+      (popped_valued now.frame.variables (code now.table.now) now.frame.left now.frame.right vs (held now.stack) rest cell last going)
+
+  -- and is visited next
+  pub latest_going : (visited : ℕ) → visited ≡ cell
+      → Going now.frame.variables (code now.table.now) now.frame.left now.frame.right now.values.now rest (Touches now.frame.variables now.frame.left now.frame.right rest visited)
+  latest_going visited same =
+      popped now.frame.variables (code now.table.now) now.frame.left now.frame.right now.values.now (held now.stack) rest cell last visited same going
 
 -- the state at a turn of a visit that began with the first search: the parts of the group from `bound` on are done
 abbrev pub Turns : Search → Visit → ℕ → ℕ → Search → Type 0
