@@ -25,8 +25,8 @@ pub struct Frame {
     pub points: usize,
     pub left: u16,
     pub right: u16,
-    ghost few: { variables ≤ 10 },
-    ghost all: { points ≡ 2 ^ variables },
+    ghost at_most_ten: { variables ≤ 10 },
+    ghost all_points: { points ≡ 2 ^ variables },
     ghost left_inside: { left < 2 ^ variables },
     ghost right_inside: { right < 2 ^ variables },
 }

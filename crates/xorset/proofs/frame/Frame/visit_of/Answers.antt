@@ -7,7 +7,7 @@ pub returns-then-cell-self : goal.returns-then-cell-self
 returns-then-cell-self c =
     let frame = c.args.self in
     record {
-      visits = visits_left frame.variables frame.left frame.right c.args.cell frame.right_inside (omega (arith, frame.all)) c.requires;
+      visits = visits_left frame.variables frame.left frame.right c.args.cell frame.right_inside (omega (arith, frame.all_points)) c.requires;
       cell = refl;
     }
 
@@ -15,6 +15,6 @@ pub returns-else-cell-self : goal.returns-else-cell-self
 returns-else-cell-self c =
     let frame = c.args.self in
     record {
-      visits = visits_right frame.variables frame.left frame.right c.args.cell frame.points frame.left_inside frame.all c.if-cell-self.false c.requires;
+      visits = visits_right frame.variables frame.left frame.right c.args.cell frame.points frame.left_inside frame.all_points c.if-cell-self.false c.requires;
       cell = refl;
     }

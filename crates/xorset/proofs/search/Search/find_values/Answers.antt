@@ -10,4 +10,4 @@ returns-clause-found c =
     let s = c.loop-root.self in
     let points : s.frame.points ≡ c.args.self.now.frame.points = ap (λ (f : Frame). f.points) c.loop-root.invariant.kept.frame in
     finish s.frame.variables (code s.table.now) s.frame.left s.frame.right s.values.now c.loop-root.invariant.between.going
-    (λ k lt. c.loop-root.invariant.between.past k (omega (arith, s.frame.all)))
+    (λ k lt. c.loop-root.invariant.between.past k (omega (arith, s.frame.all_points)))
