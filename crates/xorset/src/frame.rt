@@ -4,14 +4,14 @@ use tables::clear_group;
 
 // The side of a cell.
 #[derive(Clone, Copy)]
-pub enum Side {
+pub(crate) enum Side {
     Left,
     Right,
 }
 
 // A visit of a cell: its links are those of the assignments that are `base` without the digits of `group`, and lead to cells of the other side.
 #[derive(Clone, Copy)]
-pub struct Visit {
+pub(crate) struct Visit {
     pub cell: usize,
     pub base: usize,
     pub group: u16,
@@ -20,7 +20,7 @@ pub struct Visit {
 
 // The number of variables and of assignments of a table, and two groups of its variables.
 #[derive(Clone, Copy)]
-pub struct Frame {
+pub(crate) struct Frame {
     pub variables: u8,
     pub points: usize,
     pub left: u16,
@@ -35,7 +35,7 @@ impl Frame {
     ghost use Rattle.xorset.specs.Search.{HasCell, HasVisit, cell_at};
 
     // The cell of an assignment on a side: left cells are numbered first.
-    pub fn cell_of(self, side: Side, i: usize) -> usize
+    pub(crate) fn cell_of(self, side: Side, i: usize) -> usize
         requires { i < 2 ^ self.variables }
         ensures { result ≡ cell_at self side i }
     {
@@ -46,7 +46,7 @@ impl Frame {
     }
 
     // How a cell is visited.
-    pub fn visit_of(self, cell: usize) -> Visit
+    pub(crate) fn visit_of(self, cell: usize) -> Visit
         requires { HasCell self cell }
         ensures visits { HasVisit self result }
         ensures cell { result.cell ≡ cell }

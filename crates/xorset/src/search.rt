@@ -13,7 +13,7 @@ const WAITING: u16 = 3;
 
 // A search for values of the cells that meet the links of a table: a number for each cell, and a stack of the cells to visit.
 #[derive(Drop)]
-pub struct Search<'a> {
+pub(crate) struct Search<'a> {
     table: &'a [u8],
     frame: Frame,
     values: &'a mut [u16],
@@ -29,7 +29,12 @@ impl<'a> Search<'a> {
     ghost use Rattle.xorset.specs.Search.{FollowsLink, IsMarked, HasNoValues, HasRoom, HasValues, HasVisit, IsBetween, IsGoing, IsOpen, IsTouched, Kept, LinkConflicts, WentOn, part_codes};
 
     // A search that begins: the cells that have a link wait, and no cell is to visit.
-    pub fn new(table: &'a [u8], frame: Frame, values: &'a mut [u16], cells: &'a mut [u16]) -> Self
+    pub(crate) fn new(
+        table: &'a [u8],
+        frame: Frame,
+        values: &'a mut [u16],
+        cells: &'a mut [u16],
+    ) -> Self
         requires table { length table.now ≡ 2 ^ frame.variables }
         requires work { (length values.old ≡ 2 * 2 ^ frame.variables) × (length cells.old ≡ 2 * 2 ^ frame.variables) }
         ensures kept { (result.table.now ≡ table.now) × (result.frame ≡ frame) }
@@ -60,7 +65,7 @@ impl<'a> Search<'a> {
     }
 
     // Finds values of the cells that meet the links, the lowest cell of each class 0.
-    pub fn find_values(&mut self) -> Result<(), NoPair>
+    pub(crate) fn find_values(&mut self) -> Result<(), NoPair>
         requires { IsBetween self.old 0 }
         ensures kept { Kept self.old self.new }
         ensures found { MatchResult result (λ _. HasValues self.new) (λ _. HasNoValues self.old) }
@@ -140,7 +145,7 @@ impl<'a> Search<'a> {
     }
 
     // Writes the codes of the cells of a side into the row of its part.
-    pub fn write_part(&self, side: Side, row: &mut [u8])
+    pub(crate) fn write_part(&self, side: Side, row: &mut [u8])
         requires row { length row.old ≡ 2 ^ self.now.frame.variables }
         requires values { HasValues self.now }
         ensures { row.new ≡ part_codes self.now side }

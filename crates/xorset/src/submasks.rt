@@ -4,14 +4,14 @@ ghost use Rattle.xorset.specs.Submasks.{StepsDown};
 
 // The parts of a group, from the group itself down to 0: numbers whose digits are all in it. Those below `bound` are still to come.
 #[derive(Drop)]
-pub struct Submasks {
-    pub group: usize,
-    pub bound: usize,
+pub(crate) struct Submasks {
+    group: usize,
+    bound: usize,
 }
 
 impl Submasks {
     // All parts of a group of 16 variables at most.
-    pub fn of(group: u16) -> Self
+    pub(crate) fn of(group: u16) -> Self
         ensures group { result.group ≡ group }
         ensures bound { result.bound ≡ group + 1 }
     {
