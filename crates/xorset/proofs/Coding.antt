@@ -1,38 +1,18 @@
 -- The codes of the cells as the rows of two parts.
-use Rattle.std.proofs.Common.{◌≡◌, ℕ, ◌+◌, ◌*◌, ◌^◌, ◌<◌, ◌≤◌, Bool, true, false, List, ◌++◌, map, length, get_or, set, ap, ◌∙◌, arith}
+use Rattle.std.proofs.Common.{◌≡◌, ℕ, ◌+◌, ◌*◌, ◌^◌, ◌<◌, List, ◌++◌, map, length, get_or, set, ap, ◌∙◌, arith}
 use lib.Seq.{paste}
 use Rattle.std.specs.List.{range_with_len}
 use Rattle.std.proofs.lemmas.List.{append-nil, drop_all, get_or_default}
 use Rattle.tables.proofs.Clearing.{clear_le}
 use Rattle.tables.proofs.Fills.{fill_more, fill_all}
-use Rattle.xorset.specs.Cells.{is_one, left_cell, right_cell}
-use Rattle.xorset.specs.Xor.{linked, value_code}
-use Rattle.xorset.specs.Search.{Coded, Valued}
-
--- values that are found are codes
-value_small : (b v : Bool) → value_code b v ≤ 2
-value_small true true = omega arith
-value_small true false = omega arith
-value_small false v = omega arith
-
--- so they may be written as codes
-pub valued_coded : (n : ℕ) (t : ℕ → ℕ) (l r : ℕ) (vs : List ℕ) → Valued n t l r vs → Coded n l r vs
-valued_coded n t l r vs h i hi = (
-  omega (arith, h.left i hi, value_small (linked n t r i) (is_one (get_or vs (left_cell r i) 2))),
-  omega (arith, h.right i hi, value_small (linked n t l i) (is_one (get_or vs (right_cell n l i) 2))),
-)
-
--- a number of the row of values, read at its cell
-pub code_small : (vs : List ℕ) (c cell : ℕ) → c ≡ cell → c < length vs → get_or vs cell 2 ≤ 2 → get_or vs c 0 ≤ 2
-code_small vs c cell e inside small = let read = get_or_default vs c 0 2 inside ∙ ap (λ x. get_or vs x 2) e in omega arith
+use Rattle.xorset.specs.Search.{cell_of}
+use Rattle.xorset.specs.declared.frame.Side.{Side}
+use Rattle.xorset.specs.declared.frame.Side.TheVariants.{Left, Right}
 
 -- both cells of an assignment stand in the row
-pub left_inside : (n r i : ℕ) → i < 2 ^ n → left_cell r i < 2 * 2 ^ n
-left_inside n r i h = omega (arith, clear_le r i)
-
--- the right cell too
-pub right_inside : (n l i : ℕ) → i < 2 ^ n → right_cell n l i < 2 * 2 ^ n
-right_inside n l i h = omega (arith, clear_le l i)
+pub cell_inside : (n l r : ℕ) (side : Side) (i : ℕ) → i < 2 ^ n → cell_of n l r side i < 2 * 2 ^ n
+cell_inside n l r Left i h = omega (arith, clear_le r i)
+cell_inside n l r Right i h = omega (arith, clear_le l i)
 
 module _ (vs : List ℕ) (cell : ℕ → ℕ) (m : ℕ) (row : List ℕ) (long : length row ≡ m) where
   -- one turn writes the code of the next assignment, which stands in the row of values at c

@@ -1,24 +1,14 @@
--- One link is followed, and how a cell is visited.
-use Rattle.std.proofs.Common.{◌≡◌, ℕ, ◌+◌, ◌-◌, ◌^◌, ◌<◌, ◌≤◌, Bool, true, false, eqb, List, [], ◌∷◌, ◌++◌, length, get_or, set, Ok, Err, Result, sym, refl, ap, ◌∙◌, inl, inr, arith, MatchResult}
-use lib.Bits.{bit_and, bit_xor}
-use Rattle.std.proofs.lemmas.List.{get_or_default}
-use Rattle.std.proofs.lemmas.Bool.{cases_eq, eqb-true, eqb-false}
+-- An element is pushed, and how a cell is visited.
+use Rattle.std.proofs.Common.{◌≡◌, ℕ, ◌+◌, ◌-◌, ◌^◌, ◌<◌, ◌≤◌, [], ◌∷◌, ◌++◌, length, set, Ok, Err, Result, sym, refl, ap, ◌∙◌, inl, inr, arith, MatchResult}
+use lib.Bits.{bit_and}
 use Rattle.tables.specs.Groups.{clear}
 use Rattle.tables.specs.Stacks.{held}
 use Rattle.tables.specs.declared.stack.Stack.{Stack}
 use Rattle.tables.specs.declared.stack.StackRefusal.{StackRefusal}
 use Rattle.tables.specs.declared.stack.StackRefusal.TheVariants.{Full}
 use Rattle.tables.proofs.Clearing.{clear_and, clear_le}
-use Rattle.xorset.specs.Search.{Followed, IsCell, Visits, wanted}
-use Rattle.xorset.specs.declared.xor.Side.TheVariants.{Left, Right}
-
--- the code's XOR gives the wanted value
-pub xor-wanted : (v c : ℕ) → v < 2 → c < 2 → bit_xor v c ≡ wanted v c
-xor-wanted v c hv hc =
-    elim (cases_eq v 0) [
-      | inl e ↦ elim (cases_eq c 0) [ inl f ↦ rw (e, f) refl | inr f ↦ let one : c ≡ 1 = omega arith in rw (e, one) refl ]
-      | inr e ↦ let one_v : v ≡ 1 = omega arith in elim (cases_eq c 0) [ inl f ↦ rw (one_v, f) refl | inr f ↦ let one : c ≡ 1 = omega arith in rw (one_v, one) refl ]
-    ]
+use Rattle.xorset.specs.Search.{IsCell, Visits}
+use Rattle.xorset.specs.declared.frame.Side.TheVariants.{Left, Right}
 
 -- an element is pushed where the stack has room
 pub has_pushed : (before after : Stack ℕ) (element : ℕ) (r : Result (Unit {0}) StackRefusal)
@@ -29,24 +19,6 @@ pub has_pushed : (before after : Stack ℕ) (element : ℕ) (r : Result (Unit {0
     → length (held before) < length before.cells.now → held after ≡ held before ++ element ∷ []
 has_pushed before after element (Ok _) h room = h.0
 has_pushed before after element (Err _) h room = absurd (let z : ⊥ = omega (arith, h.2) in z)
-
-module _ (vs held : List ℕ) (other value c : ℕ) (here : other < length vs) (hv : value < 2) (hc : c < 2) where
-  -- the code reads the row at another default
-  read : get_or vs other 0 ≡ get_or vs other 2
-  read = get_or_default vs other 0 2 here
-
-  -- the test of the code tells whether the other cell has the value wanted
-  followed_by : (b : Bool) → eqb (get_or vs other 0) (bit_xor value c) ≡ b → (get_or vs other 0 ≡ 3 → ⊥) → Followed b c value other vs held vs held
-  followed_by true e valued = inl (inr (hc, sym read ∙ eqb-true _ _ e ∙ xor-wanted value c hv hc), refl, refl)
-  followed_by false e valued = (hc, λ q. valued (read ∙ q), λ q. eqb-false _ _ e (read ∙ q ∙ sym (xor-wanted value c hv hc)))
-
-  -- the other cell has a value
-  pub followed_kept : (get_or vs other 0 ≡ 3 → ⊥) → Followed (eqb (get_or vs other 0) (bit_xor value c)) c value other vs held vs held
-  followed_kept valued = followed_by (eqb (get_or vs other 0) (bit_xor value c)) refl valued
-
-  -- the other cell waits
-  pub followed_pushed : (after : List ℕ) → get_or vs other 0 ≡ 3 → after ≡ held ++ other ∷ [] → Followed true c value other vs held (set vs other (bit_xor value c)) after
-  followed_pushed after wait e = inr (hc, sym read ∙ wait, ap (λ v. set vs other v) (xor-wanted value c hv hc), e)
 
 -- a left cell is visited by the right group
 pub visits_left : (n l r c : ℕ) → r < 2 ^ n → c < 2 ^ n → IsCell n l r c → Visits n l r (record { cell = c; base = c; group = r; other = Right })

@@ -4,12 +4,14 @@ pub mod Labels
 pub mod XorValues
 pub mod XorStill
 pub mod XorKept
-pub mod Submasks
+pub mod Masking
 pub mod Linking
 pub mod Writing
 pub mod Marking
 pub mod Following
 pub mod Stepping
 pub mod Visiting
+pub mod Searches
 pub mod Classing
 pub mod Coding
+pub mod XorEnds

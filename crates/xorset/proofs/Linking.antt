@@ -1,29 +1,16 @@
 -- Links and the values of their two cells.
-use Rattle.std.proofs.Common.{◌≡◌, ℕ, ◌^◌, ◌<◌, Bool, true, false, cond, not, ◌⊎◌, List, [], ◌∷◌, ◌++◌, get_or, sym, refl, ap, ◌∙◌, ap₂, inl, inr, arith}
+use Rattle.std.proofs.Common.{◌≡◌, ℕ, ◌^◌, ◌<◌, Bool, true, false, cond, not, ◌⊎◌, List, [], get_or, sym, refl, ap, ◌∙◌, ap₂, inl, inr, arith}
+use Rattle.std.specs.List.{Contains}
 use Rattle.std.proofs.lemmas.Bool.Decides.{nat_tests}
 use Rattle.tables.proofs.Passing.{clash}
 use Rattle.xorset.specs.Cells.{Meets, Together, is_one, xor}
 use Rattle.xorset.specs.Xor.{linked}
 use Rattle.xorset.proofs.Labels.{IsLinked, linked_decides}
-use Rattle.xorset.specs.Search.{Among, Ends, Settled, Stands, wanted}
+use Rattle.xorset.specs.Search.{Ends, Settled, Stands, wanted}
 
--- a cell that is added to a list comes last
-pub among_push : (c : ℕ) (xs : List ℕ) (y : ℕ) → Among c (xs ++ y ∷ []) → Among c xs ⊎ (y ≡ c)
-among_push c [] y (inl e) = inr e
-among_push c [] y (inr z) = absurd z
-among_push c (x ∷ xs) y (inl e) = inl (inl e)
-among_push c (x ∷ xs) y (inr h) = elim (among_push c xs y h) [ inl a ↦ inl (inr a) | inr e ↦ inr e ]
-
--- the others stay
-pub among_more : (c : ℕ) (xs : List ℕ) (y : ℕ) → Among c xs → Among c (xs ++ y ∷ [])
-among_more c [] y z = absurd z
-among_more c (x ∷ xs) y (inl e) = inl e
-among_more c (x ∷ xs) y (inr h) = inr (among_more c xs y h)
-
--- and it is there
-pub among_last : (c : ℕ) (xs : List ℕ) (y : ℕ) → y ≡ c → Among c (xs ++ y ∷ [])
-among_last c [] y e = inl e
-among_last c (x ∷ xs) y e = inr (among_last c xs y e)
+-- nothing is in an empty list
+pub none_contained : (c : ℕ) → Contains [] c → ⊥
+none_contained c (k, lt, _) = omega arith
 
 -- differing is symmetric, and tells one value from the other
 pub xor_comm : (a b : Bool) → xor a b ≡ xor b a

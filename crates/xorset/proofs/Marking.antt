@@ -8,6 +8,7 @@ use Rattle.tables.proofs.Clearing.{clear_le}
 use Rattle.tables.proofs.Passing.{clash}
 use Rattle.xorset.specs.Cells.{left_cell, right_cell}
 use Rattle.xorset.specs.Xor.{linked}
+use Rattle.xorset.proofs.Linking.{none_contained}
 use Rattle.xorset.specs.Search.{Going, Marked, Stands, Waits, mark}
 
 -- the row with two cells marked
@@ -123,7 +124,7 @@ module _ (n : ℕ) (t : ℕ → ℕ) (l r : ℕ) where
         extends = λ f met. (f, met, λ c h. absurd (g.none c h));
         links = λ i hi ht. inl (unvalued (left_cell r i), unvalued (right_cell n l i));
         rooted = λ c h. absurd (g.none c h);
-        stacked = λ c z. absurd z;
+        stacked = λ c z. absurd (none_contained c z);
         room = omega (arith, count_by-le-length (λ v. eqb v 3) vs);
       }
     where

@@ -2,12 +2,14 @@
 use Rattle.std.proofs.Common.{◌≡◌, ℕ, ◌+◌, ◌^◌, ◌<◌, ◌≤◌, Bool, true, false, cond, not, ltb, ◌⊎◌, List, [], ◌∷◌, ◌++◌, get_or, set, sym, refl, ap, ◌∙◌, subst, ap₂, inl, inr, arith}
 use Rattle.std.proofs.lemmas.List.{length-set, length_push}
 use Rattle.std.proofs.lemmas.Bool.{cases_Bool, cond-true, cond-false, lt-ltb, le-ltb, ne_eqb}
+use Rattle.std.specs.List.{Contains}
+use Rattle.std.proofs.lemmas.List.Elements.{Contains-append_left, Contains-push, Contains-push_cases}
 use Rattle.tables.specs.Groups.{clear}
 use Rattle.tables.proofs.Clearing.{clear_le}
 use Rattle.xorset.specs.Cells.{Meets, Together, is_one, left_cell, right_cell, xor}
 use Rattle.xorset.specs.Xor.{linked, value_code}
-use Rattle.xorset.specs.Search.{Among, Ends, Extended, Going, NoValues, Rooted, Settled, Stands, Touches, Untouched, Valued, Waits, wanted}
-use Rattle.xorset.proofs.Linking.{among_push, among_more, xor_back, xor_flip, cond_one, wanted_one, wanted_small, stands_linked, link_linked, linked_link, ends_together, ends_met, ends_settled}
+use Rattle.xorset.specs.Search.{Ends, Extended, Going, NoValues, Rooted, Settled, Stands, Touches, Untouched, Valued, Waits, wanted}
+use Rattle.xorset.proofs.Linking.{none_contained, xor_back, xor_flip, cond_one, wanted_one, wanted_small, stands_linked, link_linked, linked_link, ends_together, ends_met, ends_settled}
 use Rattle.xorset.proofs.Writing.{written, written_here, written_kept, written_fewer, written_free, written_stands, written_waiting}
 
 -- a settled link stays so where its cells keep their values
@@ -53,7 +55,7 @@ module _ (n : ℕ) (t : ℕ → ℕ) (l r : ℕ) where
         extends = extended;
         links = λ i hi ht. link i hi ht (g.links i hi ht);
         rooted = λ c h. rooted c h (written vs y v wait small c);
-        stacked = λ c h. stacked c (among_push c held y h);
+        stacked = λ c h. stacked c (Contains-push_cases held y c h);
         room = let one = written_waiting vs y v wait small in let more = length_push held y in omega (arith, g.room);
       }
     where
@@ -79,7 +81,7 @@ module _ (n : ℕ) (t : ℕ → ℕ) (l r : ℕ) where
           keep : Rooted n t l r vs c → Rooted n t l r (set vs y v) c
           keep (d, le, tog, z, low) = (d, le, tog, written_kept vs y v wait small d (omega arith) ∙ z, λ w e. low w (written_fewer vs y v wait small w e))
 
-      stacked : (c : ℕ) → Among c held ⊎ (y ≡ c) → get_or (set vs y v) c 2 < 2
+      stacked : (c : ℕ) → Contains held c ⊎ (y ≡ c) → get_or (set vs y v) c 2 < 2
       stacked c (inl a) = let h = g.stacked c a in let q = written_kept vs y v wait small c h in omega arith
       stacked c (inr e) = let q = ap (λ x. get_or (set vs y v) x 2) (sym e) ∙ written_here vs y v wait small in omega arith
 
@@ -176,18 +178,18 @@ module _ (n : ℕ) (t : ℕ → ℕ) (l r : ℕ) where
         extends = g.extends;
         links = λ i hi ht. elim (g.links i hi ht) [ inl u ↦ inl u | inr (inl s) ↦ inr (inl s) | inr (inr o) ↦ inr (inr (touches i o)) ];
         rooted = g.rooted;
-        stacked = λ d a. g.stacked d (among_more d held c a);
+        stacked = λ d a. g.stacked d (Contains-append_left held (c ∷ []) d a);
         room = omega (arith, g.room, length_push held c);
       }
     where
       touches : (i : ℕ) → Waits n l r (held ++ c ∷ []) i → Touches n l r held c i
-      touches i (inl a) = elim (among_push (left_cell r i) held c a) [ inl h ↦ inl (inl h) | inr e ↦ inr (inl (sym e)) ]
-      touches i (inr a) = elim (among_push (right_cell n l i) held c a) [ inl h ↦ inl (inr h) | inr e ↦ inr (inr (sym e)) ]
+      touches i (inl a) = elim (Contains-push_cases held c (left_cell r i) a) [ inl h ↦ inl (inl h) | inr e ↦ inr (inl (sym e)) ]
+      touches i (inr a) = elim (Contains-push_cases held c (right_cell n l i) a) [ inl h ↦ inl (inr h) | inr e ↦ inr (inr (sym e)) ]
 
   -- with no cell left to visit every link is untouched or settled
   pub closed : (vs : List ℕ) → Going n t l r vs [] (Waits n l r []) → (i : ℕ) → i < 2 ^ n → t i < 2 → Untouched n l r vs i ⊎ Settled n t l r vs i
   closed vs g i hi ht =
-      elim (g.links i hi ht) [ inl u ↦ inl u | inr (inl s) ↦ inr s | inr (inr (inl z)) ↦ absurd z | inr (inr (inr z)) ↦ absurd z ]
+      elim (g.links i hi ht) [ inl u ↦ inl u | inr (inl s) ↦ inr s | inr (inr (inl z)) ↦ absurd (none_contained _ z) | inr (inr (inr z)) ↦ absurd (none_contained _ z) ]
 
   -- values that meet the links still do when all cells that have no value yet change
   flipped : (vs : List ℕ) (f : ℕ → Bool) → Going n t l r vs [] (Waits n l r []) → Meets n t l r f (2 ^ n)
@@ -208,8 +210,8 @@ module _ (n : ℕ) (t : ℕ → ℕ) (l r : ℕ) where
   pub root : (vs : List ℕ) (c : ℕ) → Going n t l r vs [] (Waits n l r []) → get_or vs c 2 ≡ 3 → ((w : ℕ) → get_or vs w 2 ≡ 3 → c ≤ w)
       → Going n t l r (set vs c 0) (c ∷ []) (Waits n l r (c ∷ []))
   root vs c g wait low =
-      write vs [] c 0 (Waits n l r []) (Waits n l r (c ∷ [])) g wait small (λ i _ _ o. elim o [ inl z ↦ absurd z | inr z ↦ absurd z ])
-      (λ i e. elim e [ inl q ↦ inl (inl (sym q)) | inr q ↦ inr (inl (sym q)) ]) (λ f met. extended (g.extends f met))
+      write vs [] c 0 (Waits n l r []) (Waits n l r (c ∷ [])) g wait small (λ i _ _ o. elim o [ inl z ↦ absurd (none_contained _ z) | inr z ↦ absurd (none_contained _ z) ])
+      (λ i e. elim e [ inl q ↦ inl (subst (Contains (c ∷ [])) (sym q) (Contains-push [] c)) | inr q ↦ inr (subst (Contains (c ∷ [])) (sym q) (Contains-push [] c)) ]) (λ f met. extended (g.extends f met))
       (c, omega arith, λ s closed. refl, written_here vs c 0 wait small, λ w e. low w (written_fewer vs c 0 wait small w e))
     where
       small : 0 < 2

@@ -1,20 +1,20 @@
 -- The links of a cell are followed one by one.
-use Rattle.std.proofs.Common.{◌≡◌, ℕ, ◌+◌, ◌-◌, ◌*◌, ◌^◌, ◌<◌, ◌≤◌, true, false, ◌⊎◌, List, [], ◌∷◌, ◌++◌, length, get_or, set, sym, ap, ◌∙◌, subst, inl, inr, arith}
-use lib.Bits.{bit_and, and_le_l, and_le_r}
-use Rattle.std.proofs.lemmas.Nat.{pow_below}
+use Rattle.std.proofs.Common.{◌≡◌, ℕ, ◌+◌, ◌-◌, ◌^◌, ◌<◌, ◌≤◌, ◌⊎◌, List, [], ◌∷◌, ◌++◌, length, get_or, set, sym, ap, ◌∙◌, subst, inl, inr, arith}
+use lib.Bits.{bit_and, and_le_l, and_le_r, and_self}
 use Rattle.std.proofs.lemmas.List.{get_or_default, length_push}
 use Rattle.std.proofs.lemmas.Bool.{cases_eq}
-use Rattle.tables.proofs.Clearing.{clear_le}
-use Rattle.xorset.specs.Search.{Ends, Followed, Going, NoValues, Remains, Touches, Visits, Went, cell_of, waiting, wanted}
-use Rattle.xorset.specs.declared.xor.Visit.{Visit}
-use Rattle.xorset.proofs.Linking.{among_last, among_more, wanted_small}
+use Rattle.std.specs.List.{Contains}
+use Rattle.std.proofs.lemmas.List.Elements.{Contains-append_left, Contains-push}
+use Rattle.xorset.specs.Search.{Conflicts, Ends, Followed, Going, NoValues, Remains, Touches, Visits, Went, cell_of, waiting, wanted}
+use Rattle.xorset.specs.declared.frame.Visit.{Visit}
+use Rattle.xorset.proofs.Linking.{wanted_small}
 use Rattle.xorset.proofs.Stepping.{reopen, link_none, link_same, link_pushed, link_conflict}
-use Rattle.xorset.proofs.Submasks.{add_below, add-clear, and_inside, next_part}
+use Rattle.xorset.proofs.Masking.{add_below, add-clear, and_inside, next_part}
 use Rattle.xorset.proofs.Writing.{inside, written_kept, written_fewer, written_waiting}
 
--- tables are small
-pub points_small : (n : ℕ) → n ≤ 10 → 2 ^ n < 2048
-points_small n h = pow_below n 11 (omega arith)
+-- the numbers below which parts of a group are still to come: one above the group, or a part of it
+abbrev pub IsBound : ℕ → ℕ → Type 0
+IsBound group bound = (bound ≡ group + 1) ⊎ (bit_and bound group ≡ bound)
 
 -- the state at a turn: from the values and the stack at the visit's start to those now, where the parts of the group from `bound` on are done
 pub record Turning (n : ℕ) (t : ℕ → ℕ) (l r : ℕ) (visit : Visit) (first_vs first_held vs held : List ℕ) (value bound : ℕ) : Type 0 where
@@ -35,13 +35,6 @@ module _ (n : ℕ) (t : ℕ → ℕ) (l r : ℕ) (visit : Visit) (visits : Visit
   ends_at : (part : ℕ) → bit_and part visit.group ≡ part
       → Ends n l r (visit.base + part) visit.cell (cell_of n l r visit.other (visit.base + part))
   ends_at part e = visits.ends (visit.base + part) (assignment_below part e) (add-clear part visit.group visit.base visits.apart e)
-
-  -- its other cell
-  pub other_below : (part : ℕ) → bit_and part visit.group ≡ part → cell_of n l r visit.other (visit.base + part) < 2 * 2 ^ n
-  other_below part e =
-      let i = visit.base + part in
-      let below = assignment_below part e in
-      elim (ends_at part e) [ inl (_, q) ↦ omega (arith, clear_le l i) | inr (_, q) ↦ omega (arith, clear_le r i) ]
 
   module _ (vs₀ held₀ : List ℕ) where
     -- the visit begins
@@ -76,8 +69,8 @@ module _ (n : ℕ) (t : ℕ → ℕ) (l r : ℕ) (visit : Visit) (visits : Visit
 
       -- a cell more on the stack leaves the links that remain
       more : (j y : ℕ) → Remains n l r held visit.group visit.base part j → Remains n l r (held ++ y ∷ []) visit.group visit.base part j
-      more j y (inl (inl a)) = inl (inl (among_more _ held y a))
-      more j y (inl (inr a)) = inl (inr (among_more _ held y a))
+      more j y (inl (inl a)) = inl (inl (Contains-append_left held (y ∷ []) _ a))
+      more j y (inl (inr a)) = inl (inr (Contains-append_left held (y ∷ []) _ a))
       more j y (inr e) = inr e
 
       -- the cell visited has a value
@@ -88,15 +81,15 @@ module _ (n : ℕ) (t : ℕ → ℕ) (l r : ℕ) (visit : Visit) (visits : Visit
       kept : Going n t l r vs held (Remains n l r held visit.group visit.base part) → Turning n t l r visit vs₀ held₀ vs held value part
       kept g = record { going = g; fewer = turn.fewer; less = turn.less; value_is = turn.value_is; small = turn.small }
 
-      -- a turn, by what following the link did
-      followed : (vs' held' : List ℕ) → Followed true (t (visit.base + part)) value (cell_of n l r visit.other (visit.base + part)) vs held vs' held'
+      -- the link of the part is followed to its other cell
+      pub turn_done : (vs' held' : List ℕ) → Followed (t (visit.base + part)) value (cell_of n l r visit.other (visit.base + part)) vs held vs' held'
           → Turning n t l r visit vs₀ held₀ vs' held' value part
-      followed vs' held' (inl (inl none, same_vs, same_held)) =
+      turn_done vs' held' (inl (inl none, same_vs, same_held)) =
           rw (same_vs, same_held) (kept (link_none n t l r vs held (visit.base + part) _ _ turn.going none rest))
-      followed vs' held' (inl (inr (link, e), same_vs, same_held)) =
+      turn_done vs' held' (inl (inr (link, e), same_vs, same_held)) =
           let wants = e ∙ ap (λ v. wanted v (t (visit.base + part))) (sym turn.value_is) in
           rw (same_vs, same_held) (kept (link_same n t l r vs held (visit.base + part) visit.cell _ _ _ turn.going (ends_at part whole) valued wants rest))
-      followed vs' held' (inr (link, wait, new_vs, new_held)) =
+      turn_done vs' held' (inr (link, wait, new_vs, new_held)) =
           rw (new_vs ∙ ap (λ v. set vs other (wanted v (t i))) (sym turn.value_is), new_held) pushed
         where
           i : ℕ
@@ -116,46 +109,41 @@ module _ (n : ℕ) (t : ℕ → ℕ) (l r : ℕ) (visit : Visit) (visits : Visit
               record {
                 going = link_pushed n t l r vs held i visit.cell other _ _ turn.going (assignment_below part whole) link (ends_at part whole) valued wait
                     (λ j o. elim (rest j o) [ inl q ↦ inl q | inr m ↦ inr (more j other m) ])
-                    (λ j e. elim e [ inl q ↦ inl (inl (among_last _ held other (sym q))) | inr q ↦ inl (inr (among_last _ held other (sym q))) ]);
+                    (λ j e. elim e [ inl q ↦ inl (inl (subst (Contains (held ++ other ∷ [])) (sym q) (Contains-push held other))) | inr q ↦ inl (inr (subst (Contains (held ++ other ∷ [])) (sym q) (Contains-push held other))) ]);
                 fewer = λ c e. turn.fewer c (written_fewer vs other v wait small c e);
                 less = omega (arith, turn.less, written_waiting vs other v wait small, length_push held other);
                 value_is = written_kept vs other v wait small visit.cell valued ∙ turn.value_is;
                 small = turn.small;
               }
 
-      -- the link of the part is followed to its other cell
-      pub turn_done : (other : ℕ) (vs' held' : List ℕ) → other ≡ cell_of n l r visit.other (visit.base + part)
-          → Followed true (t (visit.base + part)) value other vs held vs' held' → Turning n t l r visit vs₀ held₀ vs' held' value part
-      turn_done other vs' held' is f = followed vs' held' (subst (λ x. Followed true (t (visit.base + part)) value x vs held vs' held') is f)
-
       -- which has the other value
-      pub turn_conflict : (other : ℕ) (vs' held' : List ℕ) → other ≡ cell_of n l r visit.other (visit.base + part)
-          → Followed false (t (visit.base + part)) value other vs held vs' held' → NoValues n t l r
-      turn_conflict other vs' held' is (link, conflict, differs) =
+      pub turn_conflict : Conflicts (t (visit.base + part)) value (cell_of n l r visit.other (visit.base + part)) vs → NoValues n t l r
+      turn_conflict (link, conflict, differs) =
           link_conflict n t l r vs held (visit.base + part) visit.cell (cell_of n l r visit.other (visit.base + part)) _ turn.going
-          (assignment_below part whole) link (ends_at part whole) valued (λ e. conflict (ap (λ x. get_or vs x 2) is ∙ e))
-          (λ e. differs (ap (λ x. get_or vs x 2) is ∙ e ∙ ap (λ v. wanted v (t (visit.base + part))) turn.value_is))
+          (assignment_below part whole) link (ends_at part whole) valued conflict
+          (λ e. differs (e ∙ ap (λ v. wanted v (t (visit.base + part))) turn.value_is))
 
-    -- the last part is done: the visit is over
-    pub turn_last : (vs held : List ℕ) (value part : ℕ) → part ≡ 0 → Turning n t l r visit vs₀ held₀ vs held value part → Went n t l r vs₀ held₀ vs held
-    turn_last vs held value part none turn =
+    -- no part is left: the visit is over
+    pub turn_last : (vs held : List ℕ) (value bound : ℕ) → bound ≡ 0 → Turning n t l r visit vs₀ held₀ vs held value bound → Went n t l r vs₀ held₀ vs held
+    turn_last vs held value bound none turn =
         record {
           going = reopen n t l r vs held _ _ turn.going (λ i _ _ o. inr (elim o [ inl w ↦ w | inr (_, lt) ↦ absurd (let z : ⊥ = omega arith in z) ]));
           fewer = turn.fewer;
           less = turn.less;
         }
 
-    -- the next part below is (part - 1) & group
-    pub turn_next : (vs held : List ℕ) (value part : ℕ) → bit_and part visit.group ≡ part → Turning n t l r visit vs₀ held₀ vs held value part
-        → Turning n t l r visit vs₀ held₀ vs held value (bit_and (part - 1) visit.group + 1)
-    turn_next vs held value part whole turn =
+    -- the next part is the highest below the bound
+    pub turn_next : (vs held : List ℕ) (value bound : ℕ) → IsBound visit.group bound → Turning n t l r visit vs₀ held₀ vs held value bound
+        → Turning n t l r visit vs₀ held₀ vs held value (bit_and (bound - 1) visit.group + 1)
+    turn_next vs held value bound shape turn =
         record {
-          going = reopen n t l r vs held _ _ turn.going (λ i _ _ o. inr (elim o [ inl w ↦ inl w | inr (e, lt) ↦ inr (e, down i lt) ]));
+          going = reopen n t l r vs held _ _ turn.going (λ i _ _ o. inr (elim o [ inl w ↦ inl w | inr (e, lt) ↦ inr (e, down i lt shape) ]));
           fewer = turn.fewer;
           less = turn.less;
           value_is = turn.value_is;
           small = turn.small;
         }
       where
-        down : (i : ℕ) → bit_and i visit.group < part → bit_and i visit.group < bit_and (part - 1) visit.group + 1
-        down i lt = omega (arith, next_part part visit.group (bit_and i visit.group) whole (and_inside i visit.group) lt)
+        down : (i : ℕ) → bit_and i visit.group < bound → IsBound visit.group bound → bit_and i visit.group < bit_and (bound - 1) visit.group + 1
+        down i lt (inl whole) = let same : bound - 1 ≡ visit.group = omega arith in rw same (omega (arith, and_self visit.group, and_le_r i visit.group))
+        down i lt (inr part) = omega (arith, next_part bound visit.group (bit_and i visit.group) part (and_inside i visit.group) lt)

@@ -1,7 +1,7 @@
 -- A value is written at a cell that waits: what that changes.
 use Rattle.std.proofs.Common.{◌≡◌, ℕ, ◌+◌, ◌<◌, Bool, true, false, cond, eqb, ◌⊎◌, List, length, get_or, set, sym, ap, ◌∙◌, inl, inr, arith}
 use Rattle.std.proofs.lemmas.List.{get_or-set_same, get_or-set_other, get_or_past}
-use Rattle.std.proofs.lemmas.List.Sums.{sum_by-set, get_or-le-sum_by}
+use Rattle.std.proofs.lemmas.List.Sums.{sum_by-set}
 use Rattle.std.proofs.lemmas.Bool.{cases_eq, cases_lt}
 use Rattle.std.proofs.lemmas.Bool.Decides.{nat_tests}
 use Rattle.xorset.specs.Search.{Stands, waiting}
@@ -9,12 +9,6 @@ use Rattle.xorset.specs.Search.{Stands, waiting}
 -- a cell that is not free has a number in the row
 pub inside : (vs : List ℕ) (y : ℕ) → (get_or vs y 2 ≡ 2 → ⊥) → y < length vs
 inside vs y h = elim (cases_lt y (length vs)) [ inl lt ↦ lt | inr le ↦ absurd (h (get_or_past vs y 2 le)) ]
-
--- one cell waits, or more
-pub some_waits : (vs : List ℕ) (y : ℕ) → get_or vs y 2 ≡ 3 → 0 < waiting vs
-some_waits vs y wait =
-    let one : cond {A = ℕ} (eqb (get_or vs y 2) 3) 1 0 ≡ 1 = grind (arith, nat_tests) in
-    omega (arith, get_or-le-sum_by (λ v. cond (eqb v 3) 1 0) vs y 2 (inside vs y (λ e. omega arith)))
 
 module _ (vs : List ℕ) (y v : ℕ) (wait : get_or vs y 2 ≡ 3) (small : v < 2) where
   -- the cell that waits stands in the row

@@ -1,3 +1,4 @@
 pub mod Cells
 pub mod Xor
 pub mod Search
+pub mod Submasks

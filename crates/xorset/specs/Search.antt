@@ -1,13 +1,17 @@
 -- The search for values of the cells: what holds while it runs, and what it finds.
 -- The values stand in a row with a number for each cell: 2 where the cell has no link, 3 where it waits for a value, or else its value.
-use Rattle.std.specs.Prelude.{◌≡◌, ℕ, ◌+◌, ◌*◌, ◌^◌, ◌<◌, ◌≤◌, Bool, true, false, cond, ◌⊎◌, List, [], ◌∷◌, ◌++◌, length, count_by, ◌≢◌, bit_and, nat_eq, nat_lt, slice_index_or, slice_set}
+use Rattle.std.specs.Prelude.{◌≡◌, ℕ, ◌+◌, ◌*◌, ◌^◌, ◌<◌, ◌≤◌, Bool, true, false, ◌⊎◌, List, [], ◌∷◌, ◌++◌, length, Contains, count_by, ◌≢◌, bit_and, if◌then◌else◌, nat_eq, nat_lt, slice_index_or, slice_set}
 use Rattle.tables.specs.Groups.{clear, within}
 use Rattle.xorset.specs.Cells.{Values, Meets, Together, is_one, left_cell, right_cell, xor}
 use Rattle.xorset.specs.Xor.{linked, value_code}
-use Rattle.xorset.specs.declared.xor.Frame.{Frame}
-use Rattle.xorset.specs.declared.xor.Side.{Side}
-use Rattle.xorset.specs.declared.xor.Side.TheVariants.{Left, Right}
-use Rattle.xorset.specs.declared.xor.Visit.{Visit}
+use Rattle.tables.specs.Stacks.{held}
+use Rattle.gatesets.specs.Rules.{codes}
+use Rattle.gatesets.specs.Splits.{code}
+use Rattle.xorset.specs.declared.frame.Frame.{Frame}
+use Rattle.xorset.specs.declared.frame.Side.{Side}
+use Rattle.xorset.specs.declared.frame.Side.TheVariants.{Left, Right}
+use Rattle.xorset.specs.declared.frame.Visit.{Visit}
+use Rattle.xorset.specs.declared.search.Search.{Search}
 
 -- values found: they are values of the cells, and each cell of an assignment has its code
 pub record Valued (n : ℕ) (t : ℕ → ℕ) (l r : ℕ) (vs : List ℕ) : Type 0 where
@@ -15,27 +19,13 @@ pub record Valued (n : ℕ) (t : ℕ → ℕ) (l r : ℕ) (vs : List ℕ) : Type
   pub left : (i : ℕ) → i < 2 ^ n → slice_index_or vs (left_cell r i) 2 ≡ value_code (linked n t r i) (is_one (slice_index_or vs (left_cell r i) 2))
   pub right : (i : ℕ) → i < 2 ^ n → slice_index_or vs (right_cell n l i) 2 ≡ value_code (linked n t l i) (is_one (slice_index_or vs (right_cell n l i) 2))
 
--- the cells of every assignment have codes
-abbrev pub Coded : ℕ → ℕ → ℕ → List ℕ → Type 0
-Coded n l r vs = (i : ℕ) → i < 2 ^ n → (slice_index_or vs (left_cell r i) 2 ≤ 2) × (slice_index_or vs (right_cell n l i) 2 ≤ 2)
-
 -- no values meet the links
 abbrev pub NoValues : ℕ → (ℕ → ℕ) → ℕ → ℕ → Type 0
 NoValues n t l r = (f : ℕ → Bool) → Meets n t l r f (2 ^ n) → ⊥
 
--- what a search has found that answers so
-abbrev pub Found : Bool → ℕ → (ℕ → ℕ) → ℕ → ℕ → List ℕ → Type 0
-Found true n t l r vs = Valued n t l r vs
-Found false n t l r vs = NoValues n t l r
-
 -- how many cells wait
 abbrev pub waiting : List ℕ → ℕ
 waiting vs = count_by (λ v. nat_eq v 3) vs
-
--- an element of a list
-abbrev pub Among : ℕ → List ℕ → Type 0
-Among c [] = ⊥
-Among c (x ∷ xs) = (x ≡ c) ⊎ Among c xs
 
 -- the number of a cell, which has a link or none, in the search
 abbrev pub Stands : Bool → ℕ → Type 0
@@ -53,7 +43,7 @@ IsCell n l r c = (i : ℕ) × (i < 2 ^ n) × ((left_cell r i ≡ c) ⊎ (right_c
 
 -- the number of a cell, which has a link or none, before any has a value
 abbrev pub mark : Bool → ℕ
-mark has = cond has 3 2
+mark has = if has then 3 else 2
 
 -- the links of the assignments below m are marked, and no cell has a value
 pub record Marked (n : ℕ) (t : ℕ → ℕ) (l r m : ℕ) (vs : List ℕ) : Type 0 where
@@ -92,12 +82,12 @@ pub record Going (n : ℕ) (t : ℕ → ℕ) (l r : ℕ) (vs held : List ℕ) (o
   pub extends : (f : ℕ → Bool) → Meets n t l r f (2 ^ n) → Extended n t l r vs
   pub links : (i : ℕ) → i < 2 ^ n → t i < 2 → Untouched n l r vs i ⊎ (Settled n t l r vs i ⊎ open_at i)
   pub rooted : (c : ℕ) → slice_index_or vs c 2 < 2 → Rooted n t l r vs c
-  pub stacked : (c : ℕ) → Among c held → slice_index_or vs c 2 < 2
+  pub stacked : (c : ℕ) → Contains held c → slice_index_or vs c 2 < 2
   pub room : waiting vs + length held ≤ 2 * 2 ^ n
 
 -- a cell of i is still to visit
 abbrev pub Waits : ℕ → ℕ → ℕ → List ℕ → ℕ → Type 0
-Waits n l r held i = Among (left_cell r i) held ⊎ Among (right_cell n l i) held
+Waits n l r held i = Contains held (left_cell r i) ⊎ Contains held (right_cell n l i)
 
 -- or is the cell that is visited
 abbrev pub Touches : ℕ → ℕ → ℕ → List ℕ → ℕ → ℕ → Type 0
@@ -109,23 +99,17 @@ Remains n l r held group base bound i = Waits n l r held i ⊎ ((clear group i �
 
 -- the value that a link asks of its other cell
 abbrev pub wanted : ℕ → ℕ → ℕ
-wanted value c = cond (xor (is_one value) (is_one c)) 1 0
+wanted value c = if xor (is_one value) (is_one c) then 1 else 0
 
--- a link that is followed: there is none, its other cell has the value wanted, gets it, or has the other value
-abbrev pub Followed : Bool → ℕ → ℕ → ℕ → List ℕ → List ℕ → List ℕ → List ℕ → Type 0
-Followed true c value other vs held vs' held' =
+-- a link that is followed: there is none, its other cell has the value wanted, or gets it
+abbrev pub Followed : ℕ → ℕ → ℕ → List ℕ → List ℕ → List ℕ → List ℕ → Type 0
+Followed c value other vs held vs' held' =
     (((2 ≤ c) ⊎ ((c < 2) × (slice_index_or vs other 2 ≡ wanted value c))) × (vs' ≡ vs) × (held' ≡ held))
     ⊎ ((c < 2) × (slice_index_or vs other 2 ≡ 3) × (vs' ≡ slice_set vs other (wanted value c)) × (held' ≡ held ++ other ∷ []))
-Followed false c value other vs held vs' held' = (c < 2) × (slice_index_or vs other 2 ≢ 3) × (slice_index_or vs other 2 ≢ wanted value c)
 
--- a frame of a table and a row of values, and their sizes
-pub record Fits (frame : Frame) (row vs : List ℕ) : Type 0 where
-  pub points : frame.points ≡ 2 ^ frame.variables
-  pub variables : frame.variables ≤ 10
-  pub left : frame.left < 2 ^ frame.variables
-  pub right : frame.right < 2 ^ frame.variables
-  pub table : length row ≡ 2 ^ frame.variables
-  pub values : length vs ≡ 2 * 2 ^ frame.variables
+-- a link whose other cell has the other value
+abbrev pub Conflicts : ℕ → ℕ → ℕ → List ℕ → Type 0
+Conflicts c value other vs = (c < 2) × (slice_index_or vs other 2 ≢ 3) × (slice_index_or vs other 2 ≢ wanted value c)
 
 -- a visit of a cell: its links are those of the assignments that, cleared of the group, are the base
 pub record Visits (n l r : ℕ) (visit : Visit) : Type 0 where
@@ -141,18 +125,78 @@ pub record Went (n : ℕ) (t : ℕ → ℕ) (l r : ℕ) (vs held vs' held' : Lis
   pub fewer : (c : ℕ) → slice_index_or vs' c 2 ≡ 3 → slice_index_or vs c 2 ≡ 3
   pub less : waiting vs' + length held' ≤ waiting vs + length held
 
--- or to no values, by its answer
-abbrev pub Came : Bool → ℕ → (ℕ → ℕ) → ℕ → ℕ → List ℕ → List ℕ → List ℕ → List ℕ → Type 0
-Came true n t l r vs held vs' held' = Went n t l r vs held vs' held'
-Came false n t l r vs held vs' held' = NoValues n t l r
-
 -- between two classes: nothing is to visit, and no cell below k waits
 pub record Between (n : ℕ) (t : ℕ → ℕ) (l r k : ℕ) (vs held : List ℕ) : Type 0 where
   pub empty : held ≡ []
   pub going : Going n t l r vs [] (Waits n l r [])
   pub past : (c : ℕ) → c < k → slice_index_or vs c 2 ≢ 3
 
--- what a search of one class leads to, by its answer
-abbrev pub Passed : Bool → ℕ → (ℕ → ℕ) → ℕ → ℕ → ℕ → List ℕ → List ℕ → Type 0
-Passed true n t l r k vs held = Between n t l r k vs held
-Passed false n t l r k vs held = NoValues n t l r
+-- the same of a frame and a search as the program holds them: a search has a table and a frame, the values in its row and the cells on its stack
+
+-- the cell of an assignment on a side
+abbrev pub cell_at : Frame → Side → ℕ → ℕ
+cell_at frame = cell_of frame.variables frame.left frame.right
+
+-- a cell of an assignment
+abbrev pub HasCell : Frame → ℕ → Type 0
+HasCell frame = IsCell frame.variables frame.left frame.right
+
+-- a visit of a cell
+abbrev pub HasVisit : Frame → Visit → Type 0
+HasVisit frame = Visits frame.variables frame.left frame.right
+
+-- the links of the assignments below m are marked
+abbrev pub IsMarked : Frame → List ℕ → ℕ → List ℕ → Type 0
+IsMarked frame table = Marked frame.variables (code table) frame.left frame.right
+
+-- a search keeps its table and its frame
+pub record Kept (before after : Search) : Type 0 where
+  pub table : after.table ≡ before.table
+  pub frame : after.frame ≡ before.frame
+
+-- the search so far, and which links may still be open
+abbrev pub IsGoing : Search → (ℕ → Type 0) → Type 0
+IsGoing s = Going s.frame.variables (code s.table.now) s.frame.left s.frame.right s.values.now (held s.stack)
+
+-- a cell of i is still to visit
+abbrev pub IsOpen : Search → ℕ → Type 0
+IsOpen s = Waits s.frame.variables s.frame.left s.frame.right (held s.stack)
+
+-- or is the cell that is visited
+abbrev pub IsTouched : Search → ℕ → ℕ → Type 0
+IsTouched s = Touches s.frame.variables s.frame.left s.frame.right (held s.stack)
+
+-- the cells that wait have room on the stack
+abbrev pub HasRoom : Search → Type 0
+HasRoom s = waiting s.values.now + length (held s.stack) ≤ length s.stack.cells.now
+
+-- the link of i is followed from a cell of this value to the cell of this side
+abbrev pub FollowsLink : Search → ℕ → ℕ → Side → Search → Type 0
+FollowsLink before i value side after =
+    Followed (code before.table.now i) value (cell_at before.frame side i) before.values.now (held before.stack) after.values.now (held after.stack)
+
+-- or leads to a cell of the other value
+abbrev pub LinkConflicts : Search → ℕ → ℕ → Side → Type 0
+LinkConflicts s i value side = Conflicts (code s.table.now i) value (cell_at s.frame side i) s.values.now
+
+-- what a part of the search leads to
+abbrev pub WentOn : Search → Search → Type 0
+WentOn before after =
+    Went before.frame.variables (code before.table.now) before.frame.left before.frame.right before.values.now (held before.stack)
+    after.values.now (held after.stack)
+
+-- nothing is to visit, and no cell below k waits
+abbrev pub IsBetween : Search → ℕ → Type 0
+IsBetween s k = Between s.frame.variables (code s.table.now) s.frame.left s.frame.right k s.values.now (held s.stack)
+
+-- the values are found
+abbrev pub HasValues : Search → Type 0
+HasValues s = Valued s.frame.variables (code s.table.now) s.frame.left s.frame.right s.values.now
+
+-- or there are none
+abbrev pub HasNoValues : Search → Type 0
+HasNoValues s = NoValues s.frame.variables (code s.table.now) s.frame.left s.frame.right
+
+-- the codes of the cells of a side
+abbrev pub part_codes : Search → Side → List ℕ
+part_codes s side = codes s.frame.variables (λ i. slice_index_or s.values.now (cell_at s.frame side i) 2)

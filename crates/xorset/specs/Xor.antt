@@ -1,5 +1,5 @@
 -- The rule of XOR: the classes of linked cells are joined one link after another.
-use Rattle.std.specs.Prelude.{◌≡◌, ℕ, zero, suc, ◌^◌, Bool, true, false, cond, ◌||◌, List, ◌==◌, nat_lt}
+use Rattle.std.specs.Prelude.{◌≡◌, ℕ, zero, suc, ◌^◌, Bool, true, false, ◌||◌, if◌then◌else◌, List, ◌==◌, nat_lt}
 use Rattle.tables.specs.Gates.{gate_of}
 use Rattle.tables.specs.Groups.{within}
 use Rattle.gatesets.specs.declared.request.Request.{Request}
@@ -23,7 +23,7 @@ pub record Links : Type 0 where
 
 -- the class of `from` goes over to the class of `to`, where the two lowest cells differ by d
 abbrev pub moved : (ℕ → Label) → ℕ → ℕ → Bool → ℕ → Label
-moved f from to d c = cond ((f c).root == from) (record { root = to; odd = xor d (f c).odd }) (f c)
+moved f from to d c = if (f c).root == from then record { root = to; odd = xor d (f c).odd } else f c
 
 -- two cells of one class must differ as the link says; two classes become one, whose lowest cell is the lower of the two
 abbrev pub join_at : Bool → Bool → (ℕ → Label) → Label → Label → Bool → Bool → Links
@@ -60,7 +60,7 @@ linked n t g i = within (2 ^ n) g (λ j. nat_lt (t j) 2) i
 
 -- the code that a cell gives: its value, or free where it has no link
 abbrev pub value_code : Bool → Bool → ℕ
-value_code linked v = cond linked (cond v 1 0) 2
+value_code linked v = if linked then (if v then 1 else 0) else 2
 
 abbrev pub xor_left_code : ℕ → (ℕ → ℕ) → ℕ → ℕ → ℕ → ℕ
 xor_left_code n t l r i = value_code (linked n t r i) (xor_value n t l r (left_cell r i))

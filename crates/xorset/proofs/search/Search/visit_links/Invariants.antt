@@ -1,0 +1,15 @@
+-- The links of the parts that came are followed.
+use Rattle.std.proofs.Common.{◌≡◌}
+use Rattle.xorset.specs.Search.{Kept}
+use Rattle.xorset.proofs.Searches.{Turns}
+use Rattle.xorset.proofs.Visiting.{IsBound}
+use Rattle.xorset.proofs.search.Search.visit_links.Given as goal
+
+abbrev pub invariant-loop-part : goal.invariant-loop-part
+invariant-loop-part l =
+    record {
+      group : l.part-iterator.group ≡ l.visit.group;
+      bound : IsBound l.visit.group l.part-iterator.bound;
+      kept : Kept l.initial.self l.self;
+      turn : Turns l.initial.self l.visit l.value l.part-iterator.bound l.self;
+    }
