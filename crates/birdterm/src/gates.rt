@@ -1,16 +1,17 @@
 // The gates by which an entry can be split, as one set of gates.
-use gatesets::{LeftInverted, Opposite, PairOf};
+use gatesets::{GateSet, LeftInverted, Opposite, PairOf};
 use orset::Or;
+use tables::gate_code;
 use xorset::Xor;
 
-// The names of the gates, in the order of their numbers in the set.
-const GATES: [&str; 6] = [
-    "or",
-    "and",
-    "xor",
-    "left-inverted-or",
-    "left-inverted-and",
-    "left-inverted-xor",
+// The gates that a command can name, each with its code.
+const NAMES: [(&str, u8); 6] = [
+    ("or", 14),
+    ("and", 8),
+    ("xor", 6),
+    ("left-inverted-or", 11),
+    ("left-inverted-and", 2),
+    ("left-inverted-xor", 9),
 ];
 
 type Upright = PairOf<Or, PairOf<Opposite<Or>, Xor>>;
@@ -23,8 +24,9 @@ pub fn all_gates() -> Gates {
     PairOf(upright, LeftInverted(upright))
 }
 
-// The number of the gate with a name.
+// The number in the set of the gate with a name.
 pub fn gate_number(name: &str) -> Option<u8> {
-    let number = GATES.iter().position(|each| *each == name)?;
-    u8::try_from(number).ok()
+    let (_, code) = NAMES.iter().find(|(each, _)| *each == name)?;
+    let gates = all_gates();
+    (0..gates.count()).find(|number| gate_code(gates.answers(*number)) == *code)
 }
