@@ -19,7 +19,7 @@ use Rattle.questions.specs.Entries.{reading}
 use Rattle.questions.specs.Writing.{form_for, entry_bytes, write_checks, wrong_at, ReadAs}
 use Rattle.questions.specs.Dictionaries.{Table, Lawful, Item, table_of, item_at, any_table, any_entry, Holds, ended, entry, written, EveryTableReadsBack, EveryListReadsBack}
 use Rattle.questions.specs.Rewriting.{rewritten, rewrites}
-use Rattle.questions.proofs.Rows.{row_most}
+use Rattle.questions.proofs.RowSizes.{row_most}
 use Rattle.questions.proofs.Accepting.{lawful_bounds, passed_returns}
 use Rattle.questions.proofs.Walking.{sized_entry}
 

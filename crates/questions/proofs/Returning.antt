@@ -21,7 +21,7 @@ use Rattle.questions.specs.declared.fault.EntryFault.TheVariants.{NoByte, Variab
 use Rattle.questions.specs.Layouts.{variables_of, form_of, row_length, entry_length, row_digit, lower, upper, code_by, code, table, spare}
 use Rattle.questions.specs.Entries.{entry_checks, spare_at, above_at, reading_from}
 use Rattle.questions.specs.Writing.{digit_of, row_byte, row_bytes, rows_in, first_byte, entry_in, ReadsBackIn}
-use Rattle.questions.proofs.Rows.{place_in_row}
+use Rattle.questions.proofs.RowSizes.{place_in_row}
 use Rattle.questions.proofs.Packing.{digit_le, packed_lt, packed_digit}
 use Rattle.questions.proofs.Pasting.{length-row_bytes}
 use Rattle.questions.proofs.Answering.{entry_by}

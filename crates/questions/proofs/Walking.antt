@@ -13,7 +13,7 @@ use Rattle.questions.specs.declared.reader.Entry.{Entry}
 use Rattle.questions.specs.Layouts.{variables_of, form_of, entry_length, code, table}
 use Rattle.questions.specs.Entries.{entry_checks, refusal, reading, row_after}
 use Rattle.questions.specs.Dictionaries.{Item, item_at, any_table, Holds, ended, stopped, entry}
-use Rattle.questions.proofs.Rows.{entry_some}
+use Rattle.questions.proofs.RowSizes.{entry_some}
 use Rattle.questions.proofs.Answering.{entry_of}
 
 -- what an accepted entry says of its sizes

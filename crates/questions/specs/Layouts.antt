@@ -2,7 +2,7 @@
 -- First byte n, then the lower row, then the upper row; or first byte 16 + n and one row that serves as both.
 -- A row of 2 ^ n digits takes one byte for n below 3, else 2 ^ n / 8 bytes:
 -- assignment i is the digit of weight 2 ^ (i mod 8) in byte i div 8, and digits from 2 ^ n on are 0.
-use Rattle.std.specs.Prelude.{◌≡◌, ℕ, ◌+◌, ◌-◌, ◌/◌, ◌%◌, ◌^◌, ◌<◌, Bool, true, false, cond, not, ◌&&◌, List, map, ◌==◌, nat_lt, slice_index}
+use Rattle.std.specs.Prelude.{◌≡◌, ℕ, ◌+◌, ◌-◌, ◌/◌, ◌%◌, ◌^◌, ◌<◌, Bool, true, false, cond, not, ◌&&◌, List, map, take, drop, ◌==◌, nat_lt, slice_index}
 use Rattle.std.specs.List.{range_with_len}
 use Rattle.tables.specs.Tables.{digit, Admits}
 use Rattle.questions.specs.declared.form.Form.{Form}
@@ -26,6 +26,10 @@ upper_start n OneRow = 1
 
 abbrev pub entry_length : ℕ → Form → ℕ
 entry_length n form = upper_start n form + row_length n
+
+-- the bytes of the row that starts at a byte
+abbrev pub row_from : ℕ → List ℕ → ℕ → List ℕ
+row_from n bytes start = take (row_length n) (drop start bytes)
 
 -- the digit for assignment i in the row that starts at a byte
 abbrev pub row_digit : List ℕ → ℕ → ℕ → ℕ

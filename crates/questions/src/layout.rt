@@ -1,7 +1,11 @@
-ghost use Rattle.std.specs.Prelude.{◌≡◌, ◌^◌, ◌≤◌};
-ghost use Rattle.questions.specs.Layouts.{upper_start, entry_length};
+ghost use Rattle.std.specs.Prelude.{◌≡◌, ◌^◌, ◌≤◌, true, false, MatchOption, MatchResult};
+ghost use Rattle.tables.specs.Tables.{lawful_size};
+ghost use Rattle.questions.specs.Layouts.{variables_of, form_of, row_length, upper_start, entry_length};
+ghost use Rattle.questions.specs.declared.fault.EntryFault.TheVariants.{Variables};
 
+use super::fault::EntryFault;
 use super::form::Form;
+use tables::points;
 
 // Where the parts of an entry lie: all that its number of variables and its form fix.
 #[derive(Clone, Copy)]
@@ -10,9 +14,66 @@ pub struct Layout {
     pub form: Form,
     // the number of assignments
     pub points: usize,
+    // the number of bytes of a row
+    pub row: usize,
     // the byte at which the upper row starts; the lower row starts at byte 1
     pub upper: usize,
+    // the number of bytes of the entry
     pub length: usize,
     ghost lawful: { (1 ≤ variables) × (variables ≤ 10) },
-    ghost sized: { (points ≡ 2 ^ variables) × (upper ≡ upper_start variables form) × (length ≡ entry_length variables form) },
+    ghost sized: { (points ≡ 2 ^ variables) × (row ≡ row_length variables) × (upper ≡ upper_start variables form) × (length ≡ entry_length variables form) },
+}
+
+impl Layout {
+    // The layout of an entry of so many variables; none where that number is not from 1 to 10.
+    pub fn new(variables: u8, form: Form) -> Option<Layout>
+        ensures { MatchOption result (lawful_size variables ≡ false) (λ l. (lawful_size variables ≡ true) × (l.variables ≡ variables) × (l.form ≡ form)) }
+    {
+        let points = points(variables)?;
+        let row = if variables < 3 { 1 } else { points / 8 };
+        let upper = match form {
+            Form::TwoRows => 1 + row,
+            Form::OneRow => 1,
+        };
+        Some(Layout {
+            variables,
+            form,
+            points,
+            row,
+            upper,
+            length: upper + row,
+        })
+    }
+}
+
+// The layout that the first byte of an entry says.
+impl TryFrom<u8> for Layout {
+    type Error = EntryFault;
+
+    ghost try_from_gives = { λ first r. MatchResult r
+        (λ l. (lawful_size (variables_of first) ≡ true) × (l.variables ≡ variables_of first) × (l.form ≡ form_of first))
+        (λ fault. (fault ≡ Variables) × (lawful_size (variables_of first) ≡ false)) };
+
+    fn try_from(first: u8) -> Result<Layout, EntryFault> {
+        let (variables, form) = if first < 16 {
+            (first, Form::TwoRows)
+        } else {
+            (first - 16, Form::OneRow)
+        };
+        Layout::new(variables, form).ok_or(EntryFault::Variables)
+    }
+}
+
+// And the first byte that says a layout.
+impl From<Layout> for u8 {
+    ghost use Rattle.questions.specs.Writing.{first_byte};
+
+    ghost from_gives = { λ layout first. first ≡ first_byte layout.variables layout.form };
+
+    fn from(layout: Layout) -> u8 {
+        match layout.form {
+            Form::TwoRows => layout.variables,
+            Form::OneRow => 16 + layout.variables,
+        }
+    }
 }

@@ -4,11 +4,11 @@
 mod append;
 mod fault;
 mod form;
-mod heading;
 mod layout;
 mod listing;
 mod reader;
 mod rewrite;
+mod rows;
 mod writer;
 
 pub use append::{AppendError, append_entry};
