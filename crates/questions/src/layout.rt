@@ -1,9 +1,7 @@
-ghost use Rattle.std.specs.Prelude.{◌≡◌, ◌^◌, ◌≤◌, true, false, MatchOption, MatchResult};
+ghost use Rattle.std.specs.Prelude.{◌≡◌, ◌^◌, ◌≤◌, true, false, MatchOption};
 ghost use Rattle.tables.specs.Tables.{lawful_size};
-ghost use Rattle.questions.specs.Layouts.{variables_of, form_of, row_length, upper_start, entry_length};
-ghost use Rattle.questions.specs.declared.fault.EntryFault.TheVariants.{Variables};
+ghost use Rattle.questions.specs.Layouts.{row_length, upper_start, entry_length};
 
-use super::fault::EntryFault;
 use super::form::Form;
 use tables::points;
 
@@ -43,37 +41,5 @@ impl Layout {
             upper,
             length: upper + row,
         })
-    }
-}
-
-// The layout that the first byte of an entry says.
-impl TryFrom<u8> for Layout {
-    type Error = EntryFault;
-
-    ghost try_from_gives = { λ first r. MatchResult r
-        (λ l. (lawful_size (variables_of first) ≡ true) × (l.variables ≡ variables_of first) × (l.form ≡ form_of first))
-        (λ fault. (fault ≡ Variables) × (lawful_size (variables_of first) ≡ false)) };
-
-    fn try_from(first: u8) -> Result<Layout, EntryFault> {
-        let (variables, form) = if first < 16 {
-            (first, Form::TwoRows)
-        } else {
-            (first - 16, Form::OneRow)
-        };
-        Layout::new(variables, form).ok_or(EntryFault::Variables)
-    }
-}
-
-// And the first byte that says a layout.
-impl From<Layout> for u8 {
-    ghost use Rattle.questions.specs.Writing.{first_byte};
-
-    ghost from_gives = { λ layout first. first ≡ first_byte layout.variables layout.form };
-
-    fn from(layout: Layout) -> u8 {
-        match layout.form {
-            Form::TwoRows => layout.variables,
-            Form::OneRow => 16 + layout.variables,
-        }
     }
 }

@@ -4,6 +4,7 @@ ghost use Rattle.questions.specs.Entries.{reading, row_after, Accepted, Refused}
 
 use super::fault::EntryFault;
 use super::form::Form;
+use super::heading::Heading;
 use super::layout::Layout;
 use super::rows::Rows;
 
@@ -21,7 +22,8 @@ fn check_entry(bytes: &[u8], room: usize) -> Result<Rows<'_>, EntryFault>
     ensures { MatchResult result (λ rows. (rows.bytes.now ≡ bytes.now) × Accepted bytes.now room rows.layout) (Refused bytes.now room) }
 {
     let first = bytes.first().ok_or(EntryFault::NoByte)?;
-    let layout = Layout::try_from(*first)?;
+    let heading = Heading::from(*first);
+    let layout = Layout::new(heading.variables, heading.form).ok_or(EntryFault::Variables)?;
     if bytes.len() < layout.length || room < layout.points {
         return Err(EntryFault::TooShort);
     }

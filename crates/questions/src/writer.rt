@@ -5,6 +5,7 @@ ghost use Rattle.questions.specs.declared.form.Form.TheVariants.{TwoRows, OneRow
 
 use super::fault::WriteFault;
 use super::form::{Form, Side};
+use super::heading::Heading;
 use super::layout::Layout;
 use tables::points;
 
@@ -70,7 +71,10 @@ fn put_entry(entry: &mut [u8], table: &[u8], layout: Layout)
     requires table { length table.now ≡ layout.points }
     ensures { entry.new ≡ entry_in layout.form layout.variables table.now }
 {
-    entry[0] = u8::from(layout);
+    entry[0] = u8::from(Heading {
+        variables: layout.variables,
+        form: layout.form,
+    });
     put_row(&mut entry[1..1 + layout.row], table, Side::Lower);
     match layout.form {
         Form::TwoRows => put_row(&mut entry[layout.upper..], table, Side::Upper),
