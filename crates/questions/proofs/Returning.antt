@@ -1,12 +1,11 @@
 -- What is written is read back: an entry's bytes, followed by any others, are read as the table that they were made from.
-use Rattle.std.proofs.Common.{◌≡◌, ℕ, zero, suc, ◌+◌, ◌*◌, ◌/◌, ◌%◌, ◌^◌, ◌<◌, ◌≤◌, min, false, cond, not, eqb, ltb, leb, List, [], ◌∷◌, ◌++◌, length, get_or, take, drop, None, Ok, sym, refl, ap, ◌∙◌, subst, ap₂, subst₂, inl, inr, one-add, arith}
+use Rattle.std.proofs.Common.{All, ◌≡◌, ℕ, zero, suc, ◌+◌, ◌*◌, ◌/◌, ◌%◌, ◌^◌, ◌<◌, ◌≤◌, min, false, cond, not, eqb, ltb, leb, List, [], ◌∷◌, ◌++◌, length, get_or, take, drop, None, Ok, sym, refl, ap, ◌∙◌, subst, ap₂, subst₂, inl, inr, one-add, arith}
 use native.Mathlib.Nat.{div-eq_of_lt}
 use Rattle.std.specs.Option.{option_map}
 use Rattle.std.specs.Bool.{then_some}
-use Rattle.std.specs.List.{AllByRecursion}
 use Rattle.std.proofs.lemmas.Nat.{pow_below}
 use Rattle.std.proofs.lemmas.List.FromFn.{get_or-map-range_with_len, fill_by_all}
-use Rattle.std.proofs.ByRecursion.{All-append, All-from_get_or, All-get_or}
+use Rattle.std.proofs.lemmas.List.Elements.{All-append, All-from_get_or, All-get_or}
 use Rattle.std.proofs.lemmas.List.{append_assoc, get_or-append-add, get_or_append_left, get_or-take, length-append, length-take-le, drop_at}
 use Rattle.std.proofs.lemmas.Bool.{cases_Bool, ltb-true, le-ltb, lt-ltb, le-leb, ne_eqb, and_left, and_right, and_from, or_from}
 use Rattle.std.proofs.lemmas.Bool.Decides.{nat_tests}
@@ -81,14 +80,14 @@ byte_whole n side codes j =
     ]
 
 -- nor any byte of a whole row
-row_whole : (n : ℕ) (side : Side) (codes : List ℕ) → AllByRecursion (λ b. spare n b ≡ false) (row_bytes n side codes)
+row_whole : (n : ℕ) (side : Side) (codes : List ℕ) → All (λ b. spare n b ≡ false) (row_bytes n side codes)
 row_whole n side codes =
     All-from_get_or (λ b. spare n b ≡ false) (row_bytes n side codes) 0 (λ j l.
     let inside : j < row_length n = subst (λ k. j < k) (length-row_bytes n side codes) l in
     ap (spare n) (get_or-map-range_with_len (row_byte n side codes) 0 (row_length n) j j 0 inside (omega arith)) ∙ byte_whole n side codes j)
 
 -- nor any byte of an entry behind the first
-pub rows_whole : (n : ℕ) (form : Form) (codes : List ℕ) → AllByRecursion (λ b. spare n b ≡ false) (rows_in form n codes)
+pub rows_whole : (n : ℕ) (form : Form) (codes : List ℕ) → All (λ b. spare n b ≡ false) (rows_in form n codes)
 rows_whole n TwoRows codes = All-append (λ b. spare n b ≡ false) (row_bytes n Lower codes) (row_bytes n Upper codes) (row_whole n Lower codes) (row_whole n Upper codes)
 rows_whole n OneRow codes = row_whole n Lower codes
 

@@ -42,7 +42,7 @@ pub fn append_entry(
 {
     let mut entry = [0; 257];
     let layout = write_table(variables, codes, &mut entry)?;
-    dictionary.extend_from_slice(&entry[0..layout.length])?;
+    dictionary.extend_from_slice(&entry[..layout.length])?;
     Ok(Entry {
         variables,
         form: layout.form,

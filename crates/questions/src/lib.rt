@@ -10,6 +10,7 @@ mod listing;
 mod reader;
 mod rewrite;
 mod rows;
+mod walk;
 mod writer;
 
 pub use append::{AppendError, append_entry};

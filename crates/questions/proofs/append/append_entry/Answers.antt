@@ -1,6 +1,5 @@
 -- The written bytes are added, and their layout says the form.
 use Rattle.std.proofs.Common.{◌^◌, ◌≤◌, ◌++◌, length, take, drop, Ok, vec_items, sym, ap, ◌∙◌, ap₂, pow_mono}
-use native.Mathlib.Nat.{sub-zero}
 use Rattle.questions.specs.Layouts.{table}
 use Rattle.questions.specs.Dictionaries.{any_table, any_entry}
 use Rattle.questions.proofs.Answering.{entry_by}
@@ -16,7 +15,7 @@ returns c =
     let layout = c.in_ok-layout.layout in
     let ok = c.in_ok-layout.ensures.0 in
     let front = written_front n codes _ layout ok c.write_table.new.out c.in_ok-layout.ensures.1 in
-    let grown = c.in_ok-extend_from_slice.ensures.items ∙ ap (λ k. before ++ take k c.write_table.new.out) (sub-zero layout.length) ∙ ap (λ xs. before ++ xs) front in
+    let grown = c.in_ok-extend_from_slice.ensures.items ∙ ap (λ xs. before ++ xs) front in
     let entry_is = ap₂ (entry_by n) ok.2 (c.len.ensures ∙ c.extend_from_slice.new.self.ok.0) in
     let few : 2 ^ n ≤ any_table = pow_mono {i = n} {j = 10} (passed_bounds n codes any_entry ok.0).1 in
     let there = last_returns n codes any_entry before after ok.0 grown few in
