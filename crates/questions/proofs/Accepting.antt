@@ -19,7 +19,7 @@ one_row_none (Some i) e = clash (cc)
 one_row_none None e = refl
 
 -- so in the one-row form no assignment is free
-pub nothing_free : (n : ℕ) (codes : List ℕ) → form_for n codes ≡ OneRow → (i : ℕ) → i < 2 ^ n → get_or codes i 0 ≡ 2 → ⊥
+nothing_free : (n : ℕ) (codes : List ℕ) → form_for n codes ≡ OneRow → (i : ℕ) → i < 2 ^ n → get_or codes i 0 ≡ 2 → ⊥
 nothing_free n codes e i l =
     eqb-false (get_or codes i 0) 2 (none_below (free_at codes) (2 ^ n) (one_row_none (lowest (2 ^ n) (free_at codes)) e) i l)
 
@@ -42,7 +42,7 @@ passed_returns n codes room e =
     entry_returns n (form_for n codes) codes bounds.0 bounds.1 long (λ i l. ltb-false 2 (get_or codes i 0) (right i l)) (nothing_free n codes)
 
 -- how long an entry is
-pub length-entry_bytes : (n : ℕ) (codes : List ℕ) → length (entry_bytes n codes) ≡ entry_length n (form_for n codes)
+length-entry_bytes : (n : ℕ) (codes : List ℕ) → length (entry_bytes n codes) ≡ entry_length n (form_for n codes)
 length-entry_bytes n codes = sym (one-add (length (rows_in (form_for n codes) n codes))) ∙ length-rows_in n (form_for n codes) codes
 
 -- an entry at the end of a file is read there
@@ -58,7 +58,7 @@ last_returns n codes room before whole passed e fits =
 module _ (n : ℕ) (codes out : List ℕ) (layout : Layout) (ok : Writable n codes (length out) layout) where
   -- the length that the layout has is that of the entry
   size_is : layout.length ≡ entry_length n (form_for n codes)
-  size_is = layout.sized.3 ∙ ap₂ entry_length ok.1 ok.2
+  size_is = layout.length_is ∙ ap₂ entry_length ok.1 ok.2
 
   -- the answer
   pub written_answer : Ok layout.length ≡ writing n codes (length out)

@@ -17,11 +17,11 @@ use Rattle.questions.proofs.RowSizes.{place_in_row, lower_inside}
 
 -- the lower row of an entry lies within its bytes
 pub lower_within : (rows : Rows) → 1 + row_length rows.layout.variables ≤ length rows.bytes.now
-lower_within rows = omega (arith, rows.layout.sized, rows.whole, lower_inside rows.layout.variables rows.layout.form)
+lower_within rows = omega (arith, lower_inside rows.layout.variables rows.layout.form)
 
 -- and so does the upper row
 pub upper_within : (rows : Rows) → upper_start rows.layout.variables rows.layout.form + row_length rows.layout.variables ≤ length rows.bytes.now
-upper_within rows = omega (arith, rows.layout.sized, rows.whole)
+upper_within rows = omega arith
 
 -- a row that lies within the bytes
 module _ (n : ℕ) (bytes : List ℕ) (start : ℕ) (inside : start + row_length n ≤ length bytes) where
@@ -42,7 +42,7 @@ module _ (n : ℕ) (bytes : List ℕ) (start : ℕ) (inside : start + row_length
   row_from_digit i l = ap (digit (i % 8)) (get_or-row_from (i / 8) (place_in_row n i l))
 
 -- a byte that has all digits of another is nowhere below it
-pub met_digit : (low high k : ℕ) → bit_and low high ≡ low → digit k low ≤ digit k high
+met_digit : (low high k : ℕ) → bit_and low high ≡ low → digit k low ≤ digit k high
 met_digit low high k met = let same : digit k low ≡ min (digit k low) (digit k high) = ap (digit k) (sym met) ∙ bit_at_and low high k in omega arith
 
 -- the digits of one byte that another byte does not have
@@ -57,7 +57,7 @@ above_some low high small fits not_met none =
     bit_at_and low high k ∙ (omega arith)))
 
 -- the lowest of them
-pub lowest_digit_above : (low high : ℕ) → low < 256 → high < 256 → (bit_and low high ≡ low → ⊥)
+lowest_digit_above : (low high : ℕ) → low < 256 → high < 256 → (bit_and low high ≡ low → ⊥)
     → (trailing_zeros w8 (bit_and low (255 - high)) < 8)
     × (digit (trailing_zeros w8 (bit_and low (255 - high))) high < digit (trailing_zeros w8 (bit_and low (255 - high))) low)
     × ((k : ℕ) → k < trailing_zeros w8 (bit_and low (255 - high)) → digit k low ≤ digit k high)

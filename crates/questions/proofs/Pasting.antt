@@ -34,11 +34,11 @@ row_written n side row table long size h =
     ∙ ap (packed (λ k. digit_of side (get_or table (8 * j + k) 0))) (digits_left n j l))
 
 -- the length of a part of a list
-pub part_size : (a k : ℕ) (xs : List ℕ) → a + k ≤ length xs → length (take k (drop a xs)) ≡ k
+part_size : (a k : ℕ) (xs : List ℕ) → a + k ≤ length xs → length (take k (drop a xs)) ≡ k
 part_size a k xs l = length-take-le k (drop a xs) (omega (arith, length-drop a xs))
 
 -- a list keeps its length where a part of it is written
-pub put_size : (a k : ℕ) (xs ys : List ℕ) → a + k ≤ length xs → length ys ≡ k → length (put_mid a k xs ys) ≡ length xs
+put_size : (a k : ℕ) (xs ys : List ℕ) → a + k ≤ length xs → length ys ≡ k → length (put_mid a k xs ys) ≡ length xs
 put_size a k xs ys l e =
     omega (
       arith,
@@ -65,14 +65,14 @@ pub low_written : (layout : Layout) (out table low : List ℕ) (first : ℕ) →
     → ((j : ℕ) → j < length low → get_or low j 0 ≡ packed (λ k. digit_of Lower (get_or table (8 * j + k) 0)) (min 8 (length table - 8 * j)))
     → low ≡ row_bytes layout.variables Lower table
 low_written layout out table low first long points size h =
-    let part = part_size 1 (1 + layout.row - 1) (set out 0 first) (omega (arith, layout.sized, lower_inside layout.variables layout.form, length-set out 0 first)) in
-    row_written layout.variables Lower low table (points ∙ layout.sized.0) (omega (arith, layout.sized)) h
+    let part = part_size 1 (1 + layout.row - 1) (set out 0 first) (omega (arith, lower_inside layout.variables layout.form, length-set out 0 first)) in
+    row_written layout.variables Lower low table (points ∙ layout.points_are) (omega arith) h
 
 module _ (layout : Layout) (out table : List ℕ) (first : ℕ) (long : length out ≡ layout.length) (says : first ≡ first_byte layout.variables layout.form)
     (low : List ℕ) (lower : low ≡ row_bytes layout.variables Lower table) where
   -- the lower row behind the first byte
   front : take 1 (set out 0 first) ++ low ≡ first_byte layout.variables layout.form ∷ row_bytes layout.variables Lower table
-  front = ap (λ xs. xs ++ low) (first_written out first (omega (arith, layout.sized, entry_some layout.variables layout.form))) ∙ ap₂ ◌∷◌ says lower
+  front = ap (λ xs. xs ++ low) (first_written out first (omega (arith, entry_some layout.variables layout.form))) ∙ ap₂ ◌∷◌ says lower
 
   -- how many bytes the lower row has
   low_size : length low ≡ row_length layout.variables
@@ -85,10 +85,10 @@ module _ (layout : Layout) (out table : List ℕ) (first : ℕ) (long : length o
   upper_size is =
       let n : ℕ = layout.variables in
       let lows : List ℕ = put_mid 1 (1 + layout.row - 1) (set out 0 first) low in
-      let start : layout.upper ≡ upper_start n TwoRows = layout.sized.2 ∙ ap (upper_start n) is in
-      let size : layout.length ≡ entry_length n TwoRows = layout.sized.3 ∙ ap (entry_length n) is in
+      let start : layout.upper ≡ upper_start n TwoRows = layout.upper_at ∙ ap (upper_start n) is in
+      let size : layout.length ≡ entry_length n TwoRows = layout.length_is ∙ ap (entry_length n) is in
       let same : length lows ≡ length (set out 0 first) =
-      put_size 1 (1 + layout.row - 1) (set out 0 first) low (omega (arith, layout.sized, length-set out 0 first)) (omega (arith, layout.sized, low_size)) in
+      put_size 1 (1 + layout.row - 1) (set out 0 first) low (omega (arith, length-set out 0 first)) (omega (arith, low_size)) in
       let all : length lows ≡ layout.length = same ∙ length-set out 0 first ∙ long in
       part_size layout.upper (length lows - layout.upper) lows (omega arith) ∙ (omega arith)
 
@@ -96,8 +96,8 @@ module _ (layout : Layout) (out table : List ℕ) (first : ℕ) (long : length o
   pub entry_one : layout.form ≡ OneRow → put_mid 1 (1 + layout.row - 1) (set out 0 first) low ≡ entry_in layout.form layout.variables table
   entry_one is =
       let n : ℕ = layout.variables in
-      let size : layout.length ≡ entry_length n OneRow = layout.sized.3 ∙ ap (entry_length n) is in
-      put_end 1 (1 + layout.row - 1) (set out 0 first) low (omega (arith, layout.sized, length-set out 0 first)) ∙ front
+      let size : layout.length ≡ entry_length n OneRow = layout.length_is ∙ ap (entry_length n) is in
+      put_end 1 (1 + layout.row - 1) (set out 0 first) low (omega (arith, length-set out 0 first)) ∙ front
       ∙ ap (λ form. first_byte n form ∷ row_bytes n Lower table) is ∙ ap (λ form. entry_in form n table) (sym is)
 
   -- an entry with two rows
@@ -107,9 +107,9 @@ module _ (layout : Layout) (out table : List ℕ) (first : ℕ) (long : length o
   entry_two high is upper =
       let n : ℕ = layout.variables in
       let lows : List ℕ = put_mid 1 (1 + layout.row - 1) (set out 0 first) low in
-      let start : layout.upper ≡ upper_start n TwoRows = layout.sized.2 ∙ ap (upper_start n) is in
+      let start : layout.upper ≡ upper_start n TwoRows = layout.upper_at ∙ ap (upper_start n) is in
       let row : length low ≡ row_length n = low_size in
-      let some : 1 ≤ length (set out 0 first) = omega (arith, layout.sized, entry_some n layout.form, length-set out 0 first) in
+      let some : 1 ≤ length (set out 0 first) = omega (arith, entry_some n layout.form, length-set out 0 first) in
       put_end layout.upper (length lows - layout.upper) lows high (omega arith)
       ∙ ap (λ xs. xs ++ high) (take-put_mid 1 (1 + layout.row - 1) (set out 0 first) low layout.upper (omega arith) some ∙ front)
       ∙ ap₂ (λ form xs. first_byte n form ∷ (row_bytes n Lower table ++ xs)) is upper ∙ ap (λ form. entry_in form n table) (sym is)

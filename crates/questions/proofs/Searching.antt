@@ -11,7 +11,7 @@ use Rattle.tables.proofs.Passing.{clash, lowest-none, lowest_at}
 
 module _ {X : Type 0} (p : X → Bool) (xs : List X) (d : X) where
   -- no element passes, or there is a first that does
-  pub position_cases : ((position p xs ≡ None) × ((k : ℕ) → k < length xs → p (get_or xs k d) ≡ false))
+  position_cases : ((position p xs ≡ None) × ((k : ℕ) → k < length xs → p (get_or xs k d) ≡ false))
       ⊎ ((i : ℕ) × (position p xs ≡ Some i) × (i < length xs) × (p (get_or xs i d) ≡ true) × ((k : ℕ) → k < i → p (get_or xs k d) ≡ false))
   position_cases =
       let at : ℕ = position_or_len p xs in

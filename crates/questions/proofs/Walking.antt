@@ -53,7 +53,7 @@ abbrev pub Passed : List ℕ → List Item → ℕ → Type 0
 Passed file done at = (items : List Item) (ending : Option Stop) → Holds file at items ending → Holds file 0 (done ++ items) ending
 
 -- one entry more
-pub passed_more : (file : List ℕ) (done : List Item) (item : Item) (at next : ℕ) → Passed file done at
+passed_more : (file : List ℕ) (done : List Item) (item : Item) (at next : ℕ) → Passed file done at
     → ((items : List Item) (ending : Option Stop) → Holds file next items ending → Holds file at (item ∷ items) ending) → Passed file (done ++ item ∷ []) next
 passed_more file done item at next p step items ending h =
     subst (λ all. Holds file 0 all ending) (sym (append_assoc done (item ∷ []) items)) (p (item ∷ items) ending (step items ending h))

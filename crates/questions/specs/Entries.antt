@@ -19,12 +19,6 @@ spare_at n bytes k = nat_le 1 k && spare n (slice_index bytes k)
 abbrev pub above_at : ℕ → Form → List ℕ → ℕ → Bool
 above_at n form bytes i = nat_lt (upper n form bytes i) (lower bytes i)
 
--- the first assignment of a table at which that is so, among those from one number on and below another
-abbrev pub FirstAbove : ℕ → Form → List ℕ → ℕ → ℕ → Option ℕ → Type 0
-FirstAbove n form bytes from to None = (i : ℕ) → from ≤ i → i < to → i < 2 ^ n → above_at n form bytes i ≡ false
-FirstAbove n form bytes from to (Some i) =
-    (from ≤ i) × (i < 2 ^ n) × (above_at n form bytes i ≡ true) × ((k : ℕ) → from ≤ k → k < i → above_at n form bytes k ≡ false)
-
 -- the checks, in their order, over the bytes from the entry's start on and a row of so many codes
 abbrev pub entry_checks : ℕ → Form → List ℕ → ℕ → List (Option EntryFault)
 entry_checks n form bytes room =

@@ -19,7 +19,10 @@ pub struct Layout {
     // the number of bytes of the entry
     pub length: usize,
     ghost lawful: { (1 ≤ variables) × (variables ≤ 10) },
-    ghost sized: { (points ≡ 2 ^ variables) × (row ≡ row_length variables) × (upper ≡ upper_start variables form) × (length ≡ entry_length variables form) },
+    ghost points_are: { points ≡ 2 ^ variables },
+    ghost row_is: { row ≡ row_length variables },
+    ghost upper_at: { upper ≡ upper_start variables form },
+    ghost length_is: { length ≡ entry_length variables form },
 }
 
 impl Layout {

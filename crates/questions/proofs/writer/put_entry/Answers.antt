@@ -19,5 +19,5 @@ returns-in-TwoRows c =
     low_written layout c.args.entry.now c.args.table.now c.put_row.new.row c.from.result c.requires.entry c.requires.table c.put_row.auto.row c.put_row.ensures in
     let size = upper_size layout c.args.entry.now c.args.table.now c.from.result c.requires.entry c.from.ensures c.put_row.new.row lower c.in-TwoRows.is in
     let upper : c.put_row-in-TwoRows.new.row ≡ row_bytes layout.variables Upper c.args.table.now =
-    row_written layout.variables Upper c.put_row-in-TwoRows.new.row c.args.table.now (c.requires.table ∙ layout.sized.0) (c.put_row-in-TwoRows.auto.row ∙ size) c.put_row-in-TwoRows.ensures in
+    row_written layout.variables Upper c.put_row-in-TwoRows.new.row c.args.table.now (c.requires.table ∙ layout.points_are) (c.put_row-in-TwoRows.auto.row ∙ size) c.put_row-in-TwoRows.ensures in
     entry_two layout c.args.entry.now c.args.table.now c.from.result c.requires.entry c.from.ensures c.put_row.new.row lower c.put_row-in-TwoRows.new.row c.in-TwoRows.is upper

@@ -14,7 +14,7 @@ code_cases low high = (λ e. grind (arith, nat_tests), λ e f. grind (arith, nat
 module _ (rows : Rows) (i : ℕ) (inside : i < rows.layout.points) where
   -- the assignment is one of the table's
   below : i < 2 ^ rows.layout.variables
-  below = omega (arith, rows.layout.sized)
+  below = omega arith
 
   -- the byte of the assignment lies within the lower row
   lower_place : (row : List ℕ) → row ≡ row_from rows.layout.variables rows.bytes.now 1 → i / 8 < length row

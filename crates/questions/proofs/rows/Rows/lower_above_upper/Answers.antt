@@ -93,7 +93,7 @@ module _ (rows : Rows) where
       let high_is : get_or highs place 0 ≡ get_or bytes (start + place) 0 = ap (λ xs. get_or xs place 0) b ∙ get_or-row_from n bytes start (upper_within rows) place found.0 in
       let first = first_above n rows.layout.form bytes place (omega arith) (omega arith) found.1 found.2 in
       ap₂ (λ x y. then_some (ltb (8 * place + trailing_zeros w8 (bit_and x (255 - y))) rows.layout.points) (8 * place + trailing_zeros w8 (bit_and x (255 - y)))) low_is high_is
-      ∙ ap (λ points. then_some (ltb (8 * place + trailing_zeros w8 (missed n rows.layout.form bytes place)) points) (8 * place + trailing_zeros w8 (missed n rows.layout.form bytes place))) rows.layout.sized.0
+      ∙ ap (λ points. then_some (ltb (8 * place + trailing_zeros w8 (missed n rows.layout.form bytes place)) points) (8 * place + trailing_zeros w8 (missed n rows.layout.form bytes place))) rows.layout.points_are
       ∙ first
 
 pub returns-in_err-place : goal.returns-in_err-place

@@ -19,13 +19,13 @@ spare_found rows few =
     let n : ℕ = rows.layout.variables in
     let bytes : List ℕ = rows.bytes.now in
     let behind : List ℕ = take (rows.layout.length - 1) (drop 1 bytes) in
-    let some : 1 ≤ rows.layout.length = omega (arith, rows.layout.sized, entry_some n rows.layout.form) in
+    let some : 1 ≤ rows.layout.length = omega (arith, entry_some n rows.layout.form) in
     let long : length behind ≡ rows.layout.length - 1 = length-take-le (rows.layout.length - 1) (drop 1 bytes) (omega (arith, rows.whole, length-drop 1 bytes)) in
     position_lowest (λ b. not (b / 2 ^ rows.layout.points == 0)) behind 0 (spare_at n bytes) 1
     (λ k l. grind (arith, nat_tests))
     (λ k l.
     let byte : get_or behind k 0 ≡ get_or bytes (1 + k) 0 = get_or-take (rows.layout.length - 1) (drop 1 bytes) k 0 (omega arith) ∙ get_or-drop 1 bytes k 0 in
-    let same = ap (λ p. get_or bytes (1 + k) 0 / 2 ^ p) rows.layout.sized.0 in
+    let same = ap (λ p. get_or bytes (1 + k) 0 / 2 ^ p) rows.layout.points_are in
     grind (arith, nat_tests))
     rows.layout.length (omega arith)
 
