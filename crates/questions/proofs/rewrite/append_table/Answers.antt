@@ -33,5 +33,5 @@ returns c =
     let front = written_front n c.table.result.now _ layout told.0 c.write_table.new.out told.1 in (
       told.0.2 ∙ ap (form_for n) c.table.ensures,
       c.in_ok-extend_from_slice.ensures.items
-      ∙ ap (λ xs. vec_items c.args.bytes.now ++ xs) (front ∙ ap (entry_bytes n) c.table.ensures),
+          ∙ ap (λ xs. vec_items c.args.bytes.now ++ xs) (front ∙ ap (entry_bytes n) c.table.ensures),
     )

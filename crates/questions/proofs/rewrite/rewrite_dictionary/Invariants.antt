@@ -12,8 +12,8 @@ invariant-loop-found l =
       ends : (goal.iterator-loop-found).is_finite l.found-iterator;
       same_file : l.found-iterator.file.now ≡ l.fn.file;
       passed : (done : List Item)
-      × (vec_items l.bytes ≡ written (map table_of done))
-      × (vec_items l.entries ≡ rewrites 0 done)
-      × Passed l.fn.file done l.found-iterator.at
-      × All Lawful (map table_of done);
+          × (vec_items l.bytes ≡ written (map table_of done))
+          × (vec_items l.entries ≡ rewrites 0 done)
+          × Passed l.fn.file done l.found-iterator.at
+          × All Lawful (map table_of done);
     }
