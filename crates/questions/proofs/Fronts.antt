@@ -17,7 +17,8 @@ use Rattle.questions.specs.declared.fault.WriteFault.{WriteFault}
 use Rattle.questions.specs.declared.fault.WriteFault.TheVariants.{Variables, TooShort, Code}
 use Rattle.questions.specs.Layouts.{row_length, entry_length}
 use Rattle.questions.specs.Writing.{digit_of, packed, row_byte, row_bytes, free_at, wrong_at, form_for, write_checks, entry_in, Writable, Unwritable}
-use Rattle.questions.proofs.Pasting.{digits_left, length-row_bytes}
+use Rattle.questions.proofs.Packing.{packed_same}
+use Rattle.questions.proofs.Pasting.{digits_inside, length-row_bytes}
 use Rattle.questions.proofs.Searching.{any_index, position_index}
 
 -- a table has a free code, or the one-row form
@@ -33,11 +34,6 @@ wrong_by_position n table e = position_index (λ code. ltb 2 code) table 0 ∙ a
 lowest_same : (p q : ℕ → Bool) (m : ℕ) → ((k : ℕ) → k < m → p k ≡ q k) → lowest m p ≡ lowest m q
 lowest_same p q zero h = refl
 lowest_same p q (suc m) h = ap₂ (λ o b. option_or o (then_some b m)) (lowest_same p q m (λ k l. h k (omega arith))) (h m (omega arith))
-
--- digits that agree are packed alike
-packed_same : (f g : ℕ → ℕ) (m : ℕ) → ((k : ℕ) → k < m → f k ≡ g k) → packed f m ≡ packed g m
-packed_same f g zero h = refl
-packed_same f g (suc m) h = ap₂ (λ byte d. byte + d * 2 ^ m) (packed_same f g m (λ k l. h k (omega arith))) (h m (omega arith))
 
 module _ (n : ℕ) (codes : List ℕ) where
   -- the table has a free code where the row has one
@@ -62,7 +58,7 @@ module _ (n : ℕ) (codes : List ℕ) where
   row_byte_front : (side : Side) (j : ℕ) → j < row_length n → row_byte n side (take (2 ^ n) codes) j ≡ row_byte n side codes j
   row_byte_front side j l =
       packed_same (λ k. digit_of side (get_or (take (2 ^ n) codes) (8 * j + k) 0)) (λ k. digit_of side (get_or codes (8 * j + k) 0)) (min 8 (2 ^ n))
-      (λ k m. ap (digit_of side) (get_or-take (2 ^ n) codes (8 * j + k) 0 (omega (arith, digits_left n j l))))
+      (λ k m. ap (digit_of side) (get_or-take (2 ^ n) codes (8 * j + k) 0 (omega (arith, digits_inside n j l))))
 
   -- and so each row
   rows_front : (side : Side) → row_bytes n side (take (2 ^ n) codes) ≡ row_bytes n side codes

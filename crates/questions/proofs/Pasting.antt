@@ -18,20 +18,19 @@ use Rattle.questions.proofs.RowSizes.{whole_bytes, lower_inside, entry_some}
 pub length-row_bytes : (n : ℕ) (side : Side) (codes : List ℕ) → length (row_bytes n side codes) ≡ row_length n
 length-row_bytes n side codes = length-map-range_with_len (row_byte n side codes) 0 (row_length n)
 
--- each byte of a row has eight digits, or all of them where the row has fewer
-pub digits_left : (n j : ℕ) → j < row_length n → min 8 (2 ^ n - 8 * j) ≡ min 8 (2 ^ n)
-digits_left n j =
-    cond_both (ltb n 3) 1 (2 ^ n / 8) (λ r. j < r → min 8 (2 ^ n - 8 * j) ≡ min 8 (2 ^ n))
-    (λ e l. let none : j ≡ 0 = omega arith in omega arith)
+-- the digits of each byte of a row, eight or all, are those of assignments
+pub digits_inside : (n j : ℕ) → j < row_length n → 8 * j + min 8 (2 ^ n) ≤ 2 ^ n
+digits_inside n j =
+    cond_both (ltb n 3) 1 (2 ^ n / 8) (λ r. j < r → 8 * j + min 8 (2 ^ n) ≤ 2 ^ n)
+    (λ e l. omega arith)
     (λ e l. omega (arith, whole_bytes n (ltb-false n 3 e)))
 
 -- a row of which each byte is written
 pub row_written : (n : ℕ) (side : Side) (row table : List ℕ) → length table ≡ 2 ^ n → length row ≡ row_length n
-    → ((j : ℕ) → j < length row → get_or row j 0 ≡ packed (λ k. digit_of side (get_or table (8 * j + k) 0)) (min 8 (length table - 8 * j))) → row ≡ row_bytes n side table
+    → ((j : ℕ) → j < length row → get_or row j 0 ≡ packed (λ k. digit_of side (get_or table (8 * j + k) 0)) (min 8 (length table))) → row ≡ row_bytes n side table
 row_written n side row table long size h =
     fill_by_all (row_byte n side table) row (row_length n) 0 size (λ j l.
-    h j (omega arith) ∙ ap (λ m. packed (λ k. digit_of side (get_or table (8 * j + k) 0)) (min 8 (m - 8 * j))) long
-    ∙ ap (packed (λ k. digit_of side (get_or table (8 * j + k) 0))) (digits_left n j l))
+    h j (omega arith) ∙ ap (λ m. packed (λ k. digit_of side (get_or table (8 * j + k) 0)) (min 8 m)) long)
 
 -- the length of a part of a list
 part_size : (a k : ℕ) (xs : List ℕ) → a + k ≤ length xs → length (take k (drop a xs)) ≡ k
@@ -62,7 +61,7 @@ first_written (x ∷ out) first l = refl
 -- the lower row, where each of its bytes is written
 pub low_written : (layout : Layout) (out table low : List ℕ) (first : ℕ) → length out ≡ layout.length → length table ≡ layout.points
     → length low ≡ length (take (1 + layout.row - 1) (drop 1 (set out 0 first)))
-    → ((j : ℕ) → j < length low → get_or low j 0 ≡ packed (λ k. digit_of Lower (get_or table (8 * j + k) 0)) (min 8 (length table - 8 * j)))
+    → ((j : ℕ) → j < length low → get_or low j 0 ≡ packed (λ k. digit_of Lower (get_or table (8 * j + k) 0)) (min 8 (length table)))
     → low ≡ row_bytes layout.variables Lower table
 low_written layout out table low first long points size h =
     let part = part_size 1 (1 + layout.row - 1) (set out 0 first) (omega (arith, lower_inside layout.variables layout.form, length-set out 0 first)) in

@@ -43,6 +43,7 @@ fn check_table(variables: u8, table: &[u8], room: usize) -> Result<Layout, Write
 }
 
 // Packs the digits of up to eight codes into a byte.
+#[inline(always)]
 fn pack(codes: &[u8], side: Side) -> u8
     requires { length codes.now ≤ 8 }
     ensures { result ≡ packed (λ k. digit_of side (slice_index codes.now k)) (length codes.now) }
@@ -54,14 +55,15 @@ fn pack(codes: &[u8], side: Side) -> u8
     byte
 }
 
-// Writes a row of a table.
+// Writes a row of a table: eight digits to a byte, or all of them where the table has fewer.
+#[inline(always)]
 fn put_row(row: &mut [u8], table: &[u8], side: Side)
-    requires { 8 * length row.old < length table.now + 8 }
-    ensures { EachIndex row.new (λ j. slice_index row.new j ≡ packed (λ k. digit_of side (slice_index table.now (8 * j + k))) (min 8 (length table.now - 8 * j))) }
+    requires { EachIndex row.old (λ j. 8 * j + min 8 (length table.now) ≤ length table.now) }
+    ensures { EachIndex row.new (λ j. slice_index row.new j ≡ packed (λ k. digit_of side (slice_index table.now (8 * j + k))) (min 8 (length table.now))) }
 {
+    let count = table.len().min(8);
     for (place, byte) in row.iter_mut().enumerate() {
-        let end = table.len().min(8 * place + 8);
-        *byte = pack(&table[8 * place..end], side);
+        *byte = pack(&table[8 * place..8 * place + count], side);
     }
 }
 
