@@ -8,10 +8,10 @@ use Rattle.tables.proofs.Passing.{clash, all_pass, then_some-none, option_map-no
 use Rattle.questions.specs.declared.fault.WriteFault.TheVariants.{Variables, TooShort, Code}
 use Rattle.questions.specs.declared.form.Form.TheVariants.{TwoRows, OneRow}
 use Rattle.questions.specs.declared.layout.Layout.{Layout}
-use Rattle.questions.specs.Layouts.{form_of, entry_length}
+use Rattle.questions.specs.Layouts.{entry_length}
 use Rattle.questions.specs.Writing.{free_at, wrong_at, form_for, entry_in, rows_in, entry_bytes, write_checks, writing, ReadAs, ReadsBack, Writable}
 use Rattle.questions.specs.Dictionaries.{any_table}
-use Rattle.questions.proofs.Returning.{entry_returns, length-rows_in, heading_form}
+use Rattle.questions.proofs.Returning.{entry_returns, length-rows_in}
 
 -- the one-row form is chosen only where nothing is free
 one_row_none : (o : Option ℕ) → cond (is_some o) TwoRows OneRow ≡ OneRow → o ≡ None

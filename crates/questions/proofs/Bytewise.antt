@@ -1,5 +1,5 @@
 -- The rows of an entry: the digit of an assignment in the bytes of its row, and the two rows compared byte by byte.
-use Rattle.std.proofs.Common.{◌≡◌, ℕ, ◌+◌, ◌-◌, ◌*◌, ◌/◌, ◌%◌, ◌^◌, ◌<◌, ◌≤◌, ◌≢◌, min, true, false, List, length, get_or, drop, ltb, Some, None, sym, ap, ◌∙◌, subst, subst₂, inl, inr, arith}
+use Rattle.std.proofs.Common.{◌≡◌, ℕ, ◌+◌, ◌-◌, ◌*◌, ◌/◌, ◌%◌, ◌^◌, ◌<◌, ◌≤◌, min, true, false, List, length, get_or, drop, ltb, sym, ap, ◌∙◌, subst, subst₂, inl, inr, arith}
 use lib.Bits.{bit_and, and_le_r}
 use Rattle.std.specs.Bool.{then_some}
 use Rattle.std.specs.Int.{trailing_zeros, w8}
@@ -11,7 +11,7 @@ use Rattle.tables.specs.Tables.{digit}
 use Rattle.tables.proofs.Passing.{lowest-none, lowest_at}
 use Rattle.questions.specs.declared.form.Form.{Form}
 use Rattle.questions.specs.declared.rows.Rows.{Rows}
-use Rattle.questions.specs.Layouts.{row_length, row_from, row_digit, lower, upper, upper_start}
+use Rattle.questions.specs.Layouts.{row_length, row_from, row_digit, upper_start}
 use Rattle.questions.specs.Entries.{above_at}
 use Rattle.questions.proofs.RowSizes.{place_in_row, lower_inside}
 

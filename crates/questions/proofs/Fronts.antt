@@ -1,5 +1,5 @@
 -- A table is the front of a row of codes: what is written of it, and what is checked, is the same.
-use Rattle.std.proofs.Common.{◌≡◌, ℕ, zero, suc, ◌+◌, ◌*◌, ◌^◌, ◌<◌, ◌≤◌, min, cond, Bool, ltb, eqb, not, ◌||◌, List, [], ◌∷◌, ◌++◌, map, length, get_or, take, is_some, None, position, sym, refl, ap, ◌∙◌, ap₂, arith}
+use Rattle.std.proofs.Common.{◌≡◌, ℕ, zero, suc, ◌+◌, ◌*◌, ◌^◌, ◌<◌, ◌≤◌, min, cond, Bool, ltb, eqb, not, ◌||◌, List, [], ◌∷◌, ◌++◌, length, get_or, take, is_some, position, sym, refl, ap, ◌∙◌, ap₂, arith}
 use Rattle.std.specs.List.{list_any}
 use Rattle.std.specs.Option.{option_map, option_or}
 use Rattle.std.specs.Bool.{then_some}
@@ -16,7 +16,7 @@ use Rattle.questions.specs.declared.layout.Layout.{Layout}
 use Rattle.questions.specs.declared.fault.WriteFault.{WriteFault}
 use Rattle.questions.specs.declared.fault.WriteFault.TheVariants.{Variables, TooShort, Code}
 use Rattle.questions.specs.Layouts.{row_length, entry_length}
-use Rattle.questions.specs.Writing.{digit_of, packed, row_byte, row_bytes, free_at, wrong_at, form_for, write_checks, entry_in, Writable, Unwritable}
+use Rattle.questions.specs.Writing.{digit_of, row_byte, row_bytes, free_at, wrong_at, form_for, write_checks, entry_in, Writable, Unwritable}
 use Rattle.questions.proofs.Packing.{packed_same}
 use Rattle.questions.proofs.Pasting.{digits_inside, length-row_bytes}
 use Rattle.questions.proofs.Searching.{any_index, position_index}

@@ -4,8 +4,7 @@ use borrow.Rule.Slice.PartMut.{put_mid}
 use Rattle.std.proofs.lemmas.List.FromFn.{length-map-range_with_len, fill_by_all}
 use Rattle.std.proofs.lemmas.List.{append-nil, drop_all, length-drop, length-set, length-append, length-take-le}
 use Rattle.std.proofs.lemmas.Slice.{take-put_mid}
-use Rattle.std.proofs.lemmas.Bool.{cond_both, ltb-true, ltb-false}
-use Rattle.std.proofs.lemmas.Nat.{pow_pos}
+use Rattle.std.proofs.lemmas.Bool.{cond_both, ltb-false}
 use Rattle.questions.specs.declared.form.Form.TheVariants.{TwoRows, OneRow}
 use Rattle.questions.specs.declared.form.Side.{Side}
 use Rattle.questions.specs.declared.form.Side.TheVariants.{Lower, Upper}

@@ -4,7 +4,7 @@ use Rattle.std.proofs.lemmas.Nat.{pow-add, pow_below}
 use Rattle.std.proofs.lemmas.Bool.{cond_both, ltb-true, ltb-false}
 use Rattle.questions.specs.declared.form.Form.{Form}
 use Rattle.questions.specs.declared.form.Form.TheVariants.{TwoRows, OneRow}
-use Rattle.questions.specs.Layouts.{row_length, upper_start, entry_length}
+use Rattle.questions.specs.Layouts.{row_length, entry_length}
 
 -- from three variables on, a row fills its bytes
 pub whole_bytes : (n : ℕ) → 3 ≤ n → 2 ^ n ≡ 8 * 2 ^ (n - 3)

@@ -1,9 +1,9 @@
 -- Walking through a dictionary, entry by entry.
-use Rattle.std.proofs.Common.{◌≡◌, ℕ, ◌-◌, ◌^◌, ◌<◌, ◌≤◌, true, cond, not, List, [], ◌∷◌, ◌++◌, length, get_or, take, drop, Some, None, Ok, Err, Option, Result, unwrap_or, sym, ap, ◌∙◌, subst, subst₂, ap₂, arith}
+use Rattle.std.proofs.Common.{◌≡◌, ℕ, ◌^◌, ◌<◌, ◌≤◌, true, not, List, [], ◌∷◌, ◌++◌, length, get_or, take, drop, Some, None, Ok, Option, Result, sym, ap, ◌∙◌, subst, subst₂, arith}
 use Rattle.std.proofs.lemmas.List.FromFn.{length-map-range_with_len}
 use Rattle.std.proofs.lemmas.List.{append_assoc, append-nil, length-drop, take_at}
 use Rattle.std.proofs.lemmas.Bool.{not-false, or_parts, ltb-false}
-use Rattle.tables.specs.Tables.{lawful_size, sized}
+use Rattle.tables.specs.Tables.{lawful_size}
 use Rattle.tables.proofs.Passing.{all_pass, then_some-none, answered_ok}
 use Rattle.questions.specs.declared.listing.Stop.{Stop}
 use Rattle.questions.specs.declared.fault.EntryFault.{EntryFault}
@@ -14,7 +14,7 @@ use Rattle.questions.specs.Layouts.{variables_of, form_of, entry_length, code, t
 use Rattle.questions.specs.Entries.{entry_checks, refusal, reading, row_after}
 use Rattle.questions.specs.declared.walk.Found.{Found}
 use Rattle.questions.specs.Walks.{item_of, WalksTo}
-use Rattle.questions.specs.Dictionaries.{Item, item_at, any_table, Holds, ended, stopped, entry}
+use Rattle.questions.specs.Dictionaries.{Item, item_at, any_table, Holds}
 use Rattle.questions.proofs.RowSizes.{entry_some}
 use Rattle.questions.proofs.Answering.{entry_of}
 

@@ -1,5 +1,5 @@
 -- A dictionary: a file of entries that follow one another, and a list of tables written as such a file.
-use Rattle.std.specs.Prelude.{All, ◌≡◌, ℕ, ◌^◌, ◌<◌, ◌≤◌, true, List, [], ◌∷◌, ◌++◌, map, length, take, drop, Some, None, Ok, Err, Option}
+use Rattle.std.specs.Prelude.{All, ◌≡◌, ℕ, ◌^◌, ◌<◌, ◌≤◌, IsTrue, List, [], ◌∷◌, ◌++◌, map, length, take, drop, Some, None, Ok, Err, Option}
 use Rattle.std.specs.List.{flat_map}
 use Rattle.tables.specs.Checks.{first}
 use Rattle.tables.specs.Tables.{lawful_size, counted}
@@ -20,7 +20,7 @@ pub record Table : Type 0 where
 
 -- a table has 1 to 10 variables, a code for each assignment, and no code above 2
 abbrev pub Lawful : Table → Type 0
-Lawful t = (lawful_size t.variables ≡ true) × (length t.codes ≡ 2 ^ t.variables) × All (λ c. c ≤ 2) t.codes
+Lawful t = IsTrue (lawful_size t.variables) × (length t.codes ≡ 2 ^ t.variables) × All (λ c. c ≤ 2) t.codes
 
 -- an entry as it stands in a file: its byte number, what was read, and its codes
 pub record Item : Type 0 where

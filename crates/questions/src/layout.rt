@@ -1,4 +1,4 @@
-ghost use Rattle.std.specs.Prelude.{◌≡◌, ◌^◌, ◌≤◌, true, false, MatchOption};
+ghost use Rattle.std.specs.Prelude.{◌≡◌, ◌^◌, ◌≤◌, false, IsTrue, MatchOption};
 ghost use Rattle.tables.specs.Tables.{lawful_size};
 ghost use Rattle.questions.specs.Layouts.{row_length, upper_start, entry_length};
 
@@ -28,7 +28,7 @@ pub struct Layout {
 impl Layout {
     // The layout of an entry of so many variables; none where that number is not from 1 to 10.
     pub fn new(variables: u8, form: Form) -> Option<Layout>
-        ensures { MatchOption result (lawful_size variables ≡ false) (λ l. (lawful_size variables ≡ true) × (l.variables ≡ variables) × (l.form ≡ form)) }
+        ensures { MatchOption result (lawful_size variables ≡ false) (λ l. IsTrue (lawful_size variables) × (l.variables ≡ variables) × (l.form ≡ form)) }
     {
         let points = points(variables)?;
         let row = if variables < 3 { 1 } else { points / 8 };

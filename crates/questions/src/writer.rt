@@ -43,7 +43,6 @@ fn check_table(variables: u8, table: &[u8], room: usize) -> Result<Layout, Write
 }
 
 // Packs the digits of up to eight codes into a byte.
-#[inline(always)]
 fn pack(codes: &[u8], side: Side) -> u8
     requires { length codes.now ≤ 8 }
     ensures { result ≡ packed (λ k. digit_of side (slice_index codes.now k)) (length codes.now) }
@@ -56,7 +55,6 @@ fn pack(codes: &[u8], side: Side) -> u8
 }
 
 // Writes a row of a table: eight digits to a byte, or all of them where the table has fewer.
-#[inline(always)]
 fn put_row(row: &mut [u8], table: &[u8], side: Side)
     requires { EachIndex row.old (λ j. 8 * j + min 8 (length table.now) ≤ length table.now) }
     ensures { EachIndex row.new (λ j. slice_index row.new j ≡ packed (λ k. digit_of side (slice_index table.now (8 * j + k))) (min 8 (length table.now))) }

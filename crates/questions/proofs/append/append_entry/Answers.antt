@@ -1,5 +1,5 @@
 -- The written bytes are added, and their layout says the form.
-use Rattle.std.proofs.Common.{◌^◌, ◌≤◌, ◌++◌, length, take, drop, Ok, vec_items, sym, ap, ◌∙◌, ap₂, pow_mono}
+use Rattle.std.proofs.Common.{◌^◌, ◌≤◌, ◌++◌, length, drop, Ok, vec_items, sym, ap, ◌∙◌, ap₂, pow_mono}
 use Rattle.questions.specs.Layouts.{table}
 use Rattle.questions.specs.Dictionaries.{any_table, any_entry}
 use Rattle.questions.proofs.Answering.{entry_by}

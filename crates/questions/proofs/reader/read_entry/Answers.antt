@@ -1,9 +1,8 @@
 -- The answer follows the checks of the bytes from the byte number on.
-use Rattle.std.proofs.Common.{◌≡◌, ◌^◌, ◌++◌, length, drop, sym, refl, ap, ◌∙◌, arith}
-use Rattle.std.proofs.lemmas.List.{drop_all, take_rest}
+use Rattle.std.proofs.Common.{◌^◌, ◌++◌, length, drop, refl, ap, ◌∙◌}
+use Rattle.std.proofs.lemmas.List.{take_rest}
 use Rattle.std.proofs.lemmas.Result.{err_from_is_err_and}
 use Rattle.questions.specs.Layouts.{table}
-use Rattle.questions.specs.Entries.{reading_from}
 use Rattle.questions.proofs.Meaning.{accepted_between}
 use Rattle.questions.proofs.Answering.{answer_refused, answer_accepted}
 use Rattle.questions.proofs.reader.read_entry.Goals as goal

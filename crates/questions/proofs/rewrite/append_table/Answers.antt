@@ -1,12 +1,11 @@
 -- The writer does not refuse the table, since it is lawful.
-use Rattle.std.proofs.Common.{◌≡◌, ℕ, ◌++◌, List, length, take, None, Ok, Err, Result, vec_items, refl, ap, ◌∙◌, subst, IsOk, MatchResult}
-use Rattle.std.proofs.lemmas.List.{length-replicate}
+use Rattle.std.proofs.Common.{◌≡◌, ℕ, ◌++◌, List, None, Ok, Err, Result, vec_items, refl, ap, ◌∙◌, IsOk}
 use Rattle.tables.specs.Checks.{first}
 use Rattle.tables.proofs.Passing.{clash}
 use Rattle.questions.specs.declared.fault.WriteFault.{WriteFault}
 use Rattle.questions.specs.declared.layout.Layout.{Layout}
 use Rattle.questions.specs.Writing.{form_for, entry_bytes, write_checks, Unwritable}
-use Rattle.questions.specs.Dictionaries.{any_entry, Lawful, table_of}
+use Rattle.questions.specs.Dictionaries.{any_entry, table_of}
 use Rattle.questions.specs.Walks.{item_of}
 use Rattle.questions.proofs.Accepting.{written_front}
 use Rattle.questions.proofs.Relisting.{lawful_passes}

@@ -1,8 +1,8 @@
 -- Each turn writes one table more; at the end the whole list reads back.
-use Rattle.std.proofs.Common.{All, ◌≡◌, [], ◌∷◌, ◌++◌, map, length, None, sym, ap, ◌∙◌, subst, ap₂, zero-add}
+use Rattle.std.proofs.Common.{All, [], ◌∷◌, ◌++◌, map, length, None, sym, ap, ◌∙◌, subst, ap₂, zero-add}
 use Rattle.std.proofs.lemmas.List.Elements.{All-push}
 use Rattle.std.proofs.lemmas.List.{map_push}
-use Rattle.questions.specs.Writing.{form_for, entry_bytes}
+use Rattle.questions.specs.Writing.{entry_bytes}
 use Rattle.questions.specs.Dictionaries.{Holds, table_of, Lawful, written, ReadsAs}
 use Rattle.questions.specs.Walks.{item_of}
 use Rattle.questions.proofs.Relisting.{every_table_reads_back, every_list_reads_back, rewrites_push, written_push}

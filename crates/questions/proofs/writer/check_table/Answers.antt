@@ -1,7 +1,6 @@
 -- The form and the wrong code are those of the table's assignments.
-use Rattle.std.proofs.Common.{◌≡◌, ◌^◌, rules, ◌∙◌}
-use Rattle.tables.specs.Checks.{lowest}
-use Rattle.questions.specs.Writing.{form_for, wrong_at}
+use Rattle.std.proofs.Common.{◌≡◌, rules, ◌∙◌}
+use Rattle.questions.specs.Writing.{form_for}
 use Rattle.questions.proofs.Fronts.{form_by_any, wrong_by_position}
 use Rattle.questions.proofs.writer.check_table.Goals as goal
 

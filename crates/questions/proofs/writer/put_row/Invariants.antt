@@ -1,5 +1,5 @@
 -- The bytes before this one are written.
-use Rattle.std.proofs.Common.{◌≡◌, ℕ, ◌+◌, ◌-◌, ◌*◌, ◌<◌, min, length, get_or}
+use Rattle.std.proofs.Common.{◌≡◌, ℕ, ◌+◌, ◌*◌, ◌<◌, min, length, get_or}
 use Rattle.questions.specs.Writing.{digit_of, packed}
 use Rattle.questions.proofs.writer.put_row.Given as goal
 

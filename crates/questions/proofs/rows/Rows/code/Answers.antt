@@ -1,9 +1,9 @@
 -- The two digits are those of the entry, and the code is what they say.
-use Rattle.std.proofs.Common.{◌≡◌, ℕ, ◌+◌, ◌/◌, ◌%◌, ◌^◌, ◌<◌, ◌≤◌, List, length, get_or, sym, ap, ◌∙◌, ap₂, arith}
+use Rattle.std.proofs.Common.{◌≡◌, ℕ, ◌/◌, ◌%◌, ◌^◌, ◌<◌, List, length, get_or, ap, ◌∙◌, ap₂, arith}
 use Rattle.std.proofs.lemmas.Bool.Decides.{nat_tests}
 use Rattle.tables.specs.Tables.{digit}
 use Rattle.questions.specs.declared.rows.Rows.{Rows}
-use Rattle.questions.specs.Layouts.{row_length, row_from, row_digit, upper_start, lower, upper, code_by, code}
+use Rattle.questions.specs.Layouts.{row_from, upper_start, code_by, code}
 use Rattle.questions.proofs.Bytewise.{lower_within, upper_within, row_from_place, row_from_digit}
 use Rattle.questions.proofs.rows.Rows.code.Goals as goal
 

@@ -1,5 +1,5 @@
 -- The first byte that is not met has the first such assignment, where it is one of the table's.
-use Rattle.std.proofs.Common.{◌≡◌, ℕ, ◌+◌, ◌-◌, ◌*◌, ◌/◌, ◌^◌, ◌<◌, ◌≤◌, ◌==◌, Bool, true, false, not, ltb, List, length, get_or, position, Some, None, sym, ap, ◌∙◌, ap₂, arith}
+use Rattle.std.proofs.Common.{◌≡◌, ℕ, ◌+◌, ◌-◌, ◌*◌, ◌/◌, ◌^◌, ◌<◌, ◌==◌, Bool, not, ltb, List, length, get_or, position, Some, None, sym, ap, ◌∙◌, ap₂, arith}
 use lib.Bits.{bit_and}
 use Rattle.std.specs.Bool.{then_some}
 use Rattle.std.specs.Int.{trailing_zeros, w8}

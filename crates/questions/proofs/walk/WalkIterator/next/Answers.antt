@@ -1,8 +1,7 @@
 -- The file holds what the reader says at the byte number.
-use Rattle.std.proofs.Common.{◌≡◌, ℕ, ◌^◌, ◌<◌, ◌∷◌, length, take, Ok, Err, sym, refl, ap, subst, arith}
+use Rattle.std.proofs.Common.{ℕ, ◌∷◌, sym, refl, subst}
 use Rattle.std.proofs.lemmas.List.{length-replicate}
-use Rattle.questions.specs.Entries.{reading}
-use Rattle.questions.specs.Dictionaries.{any_table, Item, Holds, ended, stopped, entry, Lawful, table_of, item_at}
+use Rattle.questions.specs.Dictionaries.{any_table, Holds, ended, stopped, entry, Lawful}
 use Rattle.questions.proofs.Walking.{read_any, front_codes}
 use Rattle.questions.proofs.Relisting.{lawful_item}
 use Rattle.questions.proofs.walk.WalkIterator.next.Goals as goal
