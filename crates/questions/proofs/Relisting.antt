@@ -21,7 +21,7 @@ use Rattle.questions.specs.Dictionaries.{Table, Lawful, Item, table_of, item_at,
 use Rattle.questions.specs.Rewriting.{rewritten, rewrites}
 use Rattle.questions.proofs.RowSizes.{row_most}
 use Rattle.questions.proofs.Accepting.{lawful_bounds, passed_returns}
-use Rattle.questions.proofs.Walking.{sized_entry}
+use Rattle.questions.proofs.Walking.{lawful_read}
 
 -- a code that is read is at most 2
 code_le : (low high : ℕ) → code_by low high ≤ 2
@@ -32,7 +32,7 @@ pub lawful_item : (file : List ℕ) (at room : ℕ) (e : Entry) → reading file
 lawful_item file at room e read =
     let n = e.variables in
     let codes : ℕ → ℕ = code n e.form (drop at file) in (
-      (sized_entry file at room e read).lawful,
+      lawful_read file at room e read,
       length-map-range_with_len codes 0 (2 ^ n),
       All-map (λ c. c ≤ 2) codes (range_with_len 0 (2 ^ n)) (λ k d l. code_le (lower (drop at file) _) (upper n e.form (drop at file) _)),
     )

@@ -18,31 +18,14 @@ use Rattle.questions.specs.Dictionaries.{Item, item_at, any_table, Holds}
 use Rattle.questions.proofs.RowSizes.{entry_some}
 use Rattle.questions.proofs.Answering.{entry_of}
 
--- what an accepted entry says of its sizes
-pub record Sized (file : List ℕ) (at : ℕ) (e : Entry) : Type 0 where
-  pub lawful : lawful_size e.variables ≡ true
-  pub onward : at < e.next
-  pub within : at < length file → e.next ≤ length file
-
--- by its checks
-pub sized_entry : (file : List ℕ) (at room : ℕ) (e : Entry) → reading file at room ≡ Ok e → Sized file at e
-sized_entry file at room e h = subst (Sized file at) ok.1 here
-  where
-    ok : (refusal (drop at file) room ≡ None) × (entry_of (drop at file) at ≡ e)
-    ok = answered_ok (refusal (drop at file) room) (entry_of (drop at file) at) e h
-
-    here : Sized file at (entry_of (drop at file) at)
-    here =
-        let n : ℕ = variables_of (get_or (drop at file) 0 0) in
-        let form : Form = form_of (get_or (drop at file) 0 0) in
-        let passed = all_pass (entry_checks n form (drop at file) room) ok.0 in
-        let short = or_parts _ _ (then_some-none _ TooShort passed.1.1.0) in
-        let long : entry_length n form ≤ length (drop at file) = ltb-false (length (drop at file)) (entry_length n form) short.0 in
-        record {
-          lawful = not-false (lawful_size n) (then_some-none (not (lawful_size n)) Variables passed.1.0);
-          onward = omega (arith, entry_some n form);
-          within = λ l. omega (arith, length-drop at file);
-        }
+-- an accepted entry has 1 to 10 variables
+pub lawful_read : (file : List ℕ) (at room : ℕ) (e : Entry) → reading file at room ≡ Ok e → lawful_size e.variables ≡ true
+lawful_read file at room e h =
+    let n : ℕ = variables_of (get_or (drop at file) 0 0) in
+    let form : Form = form_of (get_or (drop at file) 0 0) in
+    let ok = answered_ok (refusal (drop at file) room) (entry_of (drop at file) at) e h in
+    let passed = all_pass (entry_checks n form (drop at file) room) ok.0 in
+    subst (λ x. lawful_size x.variables ≡ true) ok.1 (not-false (lawful_size n) (then_some-none (not (lawful_size n)) Variables passed.1.0))
 
 -- a row of 1,024 codes takes any table
 pub read_any : {r : Result Entry EntryFault} (file : List ℕ) (at room : ℕ) → room ≡ any_table → r ≡ reading file at room → reading file at any_table ≡ r
