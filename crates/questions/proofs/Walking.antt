@@ -1,21 +1,20 @@
 -- Walking through a dictionary, entry by entry.
-use Rattle.std.proofs.Common.{◌≡◌, ℕ, ◌^◌, ◌<◌, ◌≤◌, true, not, List, [], ◌∷◌, ◌++◌, length, get_or, take, drop, Some, None, Ok, Option, Result, sym, ap, ◌∙◌, subst, subst₂, arith}
+use Rattle.std.proofs.Common.{◌≡◌, ℕ, ◌^◌, true, not, List, [], ◌∷◌, ◌++◌, get_or, take, drop, Some, Ok, Option, Result, sym, ap, ◌∙◌, subst, subst₂}
 use Rattle.std.proofs.lemmas.List.FromFn.{length-map-range_with_len}
-use Rattle.std.proofs.lemmas.List.{append_assoc, append-nil, length-drop, take_at}
-use Rattle.std.proofs.lemmas.Bool.{not-false, or_parts, ltb-false}
+use Rattle.std.proofs.lemmas.List.{append_assoc, append-nil, take_at}
+use Rattle.std.proofs.lemmas.Bool.{not-false}
 use Rattle.tables.specs.Tables.{lawful_size}
 use Rattle.tables.proofs.Passing.{all_pass, then_some-none, answered_ok}
 use Rattle.questions.specs.declared.listing.Stop.{Stop}
 use Rattle.questions.specs.declared.fault.EntryFault.{EntryFault}
-use Rattle.questions.specs.declared.fault.EntryFault.TheVariants.{Variables, TooShort}
+use Rattle.questions.specs.declared.fault.EntryFault.TheVariants.{Variables}
 use Rattle.questions.specs.declared.form.Form.{Form}
 use Rattle.questions.specs.declared.reader.Entry.{Entry}
-use Rattle.questions.specs.Layouts.{variables_of, form_of, entry_length, code, table}
+use Rattle.questions.specs.Layouts.{variables_of, form_of, code, table}
 use Rattle.questions.specs.Entries.{entry_checks, refusal, reading, row_after}
 use Rattle.questions.specs.declared.walk.Found.{Found}
 use Rattle.questions.specs.Walks.{item_of, WalksTo}
 use Rattle.questions.specs.Dictionaries.{Item, item_at, any_table, Holds}
-use Rattle.questions.proofs.RowSizes.{entry_some}
 use Rattle.questions.proofs.Answering.{entry_of}
 
 -- an accepted entry has 1 to 10 variables

@@ -2,7 +2,7 @@ ghost use Rattle.std.specs.Prelude.{◌≡◌, ◌+◌, ◌/◌, ◌%◌, ◌^�
 ghost use Rattle.std.specs.List.{zip};
 ghost use Rattle.tables.specs.Checks.{lowest};
 ghost use Rattle.tables.specs.Tables.{digit};
-ghost use Rattle.questions.specs.Layouts.{row_from, upper_start, code, table};
+ghost use Rattle.questions.specs.Layouts.{row_from, upper_start, code_by, code, table};
 ghost use Rattle.questions.specs.Entries.{spare_at, above_at};
 
 use super::layout::Layout;
@@ -21,6 +21,17 @@ fn digit(row: &[u8], assignment: usize) -> u8
     ensures { result ≡ digit (assignment % 8) (slice_index row.now (assignment / 8)) }
 {
     (row[assignment / 8] >> (assignment % 8)) & 1
+}
+
+// The code of two digits: 1 where the lower is 1, 0 where the upper is 0, 2 elsewhere.
+fn code_of(low: u8, high: u8) -> u8
+    ensures { result ≡ code_by low high }
+{
+    match (low, high) {
+        (1, _) => 1,
+        (_, 0) => 0,
+        _ => 2,
+    }
 }
 
 // The place of the first byte that has a digit set past so many.
@@ -79,19 +90,15 @@ impl<'a> Rows<'a> {
         (assignment < self.layout.points).then_some(assignment)
     }
 
-    // The code of an assignment: 1 where the lower row is 1, 0 where the upper row is 0, 2 elsewhere.
+    // The code of an assignment.
     fn code(&self, assignment: usize) -> u8
         requires { assignment < self.now.layout.points }
         ensures { result ≡ code self.now.layout.variables self.now.layout.form self.now.bytes.now assignment }
     {
-        match (
+        code_of(
             digit(self.lower(), assignment),
             digit(self.upper(), assignment),
-        ) {
-            (1, _) => 1,
-            (_, 0) => 0,
-            _ => 2,
-        }
+        )
     }
 
     // Writes the table into the front of a row.

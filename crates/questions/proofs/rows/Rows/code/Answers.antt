@@ -1,15 +1,10 @@
 -- The two digits are those of the entry, and the code is what they say.
 use Rattle.std.proofs.Common.{◌≡◌, ℕ, ◌/◌, ◌%◌, ◌^◌, ◌<◌, List, length, get_or, ap, ◌∙◌, ap₂, arith}
-use Rattle.std.proofs.lemmas.Bool.Decides.{nat_tests}
 use Rattle.tables.specs.Tables.{digit}
 use Rattle.questions.specs.declared.rows.Rows.{Rows}
 use Rattle.questions.specs.Layouts.{row_from, upper_start, code_by, code}
 use Rattle.questions.proofs.Bytewise.{lower_within, upper_within, row_from_place, row_from_digit}
 use Rattle.questions.proofs.rows.Rows.code.Goals as goal
-
--- a code by its two digits
-code_cases : (low high : ℕ) → (low ≡ 1 → 1 ≡ code_by low high) × ((low ≡ 1 → ⊥) → high ≡ 0 → 0 ≡ code_by low high) × ((low ≡ 1 → ⊥) → (high ≡ 0 → ⊥) → 2 ≡ code_by low high)
-code_cases low high = (λ e. grind (arith, nat_tests), λ e f. grind (arith, nat_tests), λ e f. grind (arith, nat_tests))
 
 module _ (rows : Rows) (i : ℕ) (inside : i < rows.layout.points) where
   -- the assignment is one of the table's
@@ -40,11 +35,6 @@ digit-requires c = lower_place c.args.self.now c.args.assignment c.requires _ c.
 pub digit-requires-2 : goal.digit-requires-2
 digit-requires-2 c = upper_place c.args.self.now c.args.assignment c.requires _ c.upper.ensures
 
-pub returns-in-1-default : goal.returns-in-1-default
-returns-in-1-default c = (code_cases _ _).0 c.in-1-default.is-0 ∙ digits_code c.args.self.now c.args.assignment c.requires _ _ _ _ c.lower.ensures c.upper.ensures c.digit.ensures c.digit-2.ensures
-
-pub returns-in_default-eq0 : goal.returns-in_default-eq0
-returns-in_default-eq0 c = (code_cases _ _).1 c.in_default-eq0.is-0.1 c.in_default-eq0.is-1 ∙ digits_code c.args.self.now c.args.assignment c.requires _ _ _ _ c.lower.ensures c.upper.ensures c.digit.ensures c.digit-2.ensures
-
-pub returns-in_default : goal.returns-in_default
-returns-in_default c = (code_cases _ _).2 c.in_default.is-0.1 c.in_default.is-1.1 ∙ digits_code c.args.self.now c.args.assignment c.requires _ _ _ _ c.lower.ensures c.upper.ensures c.digit.ensures c.digit-2.ensures
+pub returns : goal.returns
+returns c =
+    c.code_of.ensures ∙ digits_code c.args.self.now c.args.assignment c.requires _ _ _ _ c.lower.ensures c.upper.ensures c.digit.ensures c.digit-2.ensures
