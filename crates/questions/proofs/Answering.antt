@@ -29,6 +29,6 @@ pub answer_accepted : (bytes whole : List ℕ) (at room : ℕ) (layout : Layout)
     → Ok (record { variables = layout.variables; form = layout.form; next = at + layout.length }) ≡ reading_from whole at room
 answer_accepted bytes whole at room layout e h =
     let same : entry_by layout.variables layout.form (at + layout.length) ≡ entry_of bytes at =
-    ap (λ l. entry_by layout.variables layout.form (at + l)) layout.sized.2
+    ap (λ l. entry_by layout.variables layout.form (at + l)) layout.length_is
     ∙ ap₂ (λ n form. entry_by n form (at + entry_length n form)) h.1 h.2 in
     ap Ok same ∙ sym (ap (λ r. answered r (entry_of bytes at)) h.0) ∙ ap (λ bs. reading_from bs at room) e

@@ -1,4 +1,4 @@
-pub mod Rows
+pub mod RowSizes
 pub mod Answering
 pub mod Meaning
 pub mod Packing
@@ -8,4 +8,6 @@ pub mod Accepting
 pub mod Walking
 pub mod Relisting
 pub mod Holding
+pub mod Searching
+pub mod Fronts
 pub mod Bytewise

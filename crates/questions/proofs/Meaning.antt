@@ -29,7 +29,7 @@ code_allows low high v within = (
 )
 
 -- a row that holds the codes of an entry, none of whose assignments is lower above upper
-pub admits_between : (n : ℕ) (form : Form) (bytes row : List ℕ) → ((i : ℕ) → i < 2 ^ n → above_at n form bytes i ≡ false)
+admits_between : (n : ℕ) (form : Form) (bytes row : List ℕ) → ((i : ℕ) → i < 2 ^ n → above_at n form bytes i ≡ false)
     → ((i : ℕ) → i < 2 ^ n → get_or row i 0 ≡ code n form bytes i) → AdmitsBetween n form bytes row
 admits_between n form bytes row within codes f = (
   λ h i l. (at i l).0 (subst (λ x. Allows x (f i)) (codes i l) (h i l)),
@@ -49,7 +49,7 @@ none_above n form bytes room e =
     none_below (above_at n form bytes) (2 ^ n) (option_map-none LowerAboveUpper (lowest (2 ^ n) (above_at n form bytes)) passed.1.1.1.1.0)
 
 -- the row after an accepted entry
-pub table-codes : (n : ℕ) (form : Form) (bytes rest : List ℕ) (i : ℕ) → i < 2 ^ n → get_or (table n form bytes ++ rest) i 0 ≡ code n form bytes i
+table-codes : (n : ℕ) (form : Form) (bytes rest : List ℕ) (i : ℕ) → i < 2 ^ n → get_or (table n form bytes ++ rest) i 0 ≡ code n form bytes i
 table-codes n form bytes rest i l =
     let long : i < length (table n form bytes) = rw (length-map-range_with_len (code n form bytes) 0 (2 ^ n)) l in
     get_or_append_left (table n form bytes) rest 0 i long ∙ get_or-map-range_with_len (code n form bytes) 0 (2 ^ n) i i 0 l (omega arith)

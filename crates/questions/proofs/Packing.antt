@@ -1,5 +1,5 @@
 -- Digits packed into a number: how large it is, and that each digit can be read off again.
-use Rattle.std.proofs.Common.{◌≡◌, ℕ, zero, suc, ◌+◌, ◌-◌, ◌*◌, ◌/◌, ◌%◌, ◌^◌, ◌<◌, ◌≤◌, eqb, ◌⊎◌, sym, ap, ◌∙◌, ap₂, inl, inr, mul_assoc, add_comm, pow-suc, add-one, arith, pow_mono}
+use Rattle.std.proofs.Common.{◌≡◌, ℕ, zero, suc, ◌+◌, ◌-◌, ◌*◌, ◌/◌, ◌%◌, ◌^◌, ◌<◌, ◌≤◌, eqb, ◌⊎◌, refl, sym, ap, ◌∙◌, ap₂, inl, inr, mul_assoc, add_comm, pow-suc, add-one, arith, pow_mono}
 use native.Mathlib.Nat.{add-mul-div_right, add-mul-mod_self_right}
 use Rattle.std.proofs.lemmas.Nat.{pow-add, pow_pos, mul-le, div-mul-add, shl_whole}
 use Rattle.std.proofs.lemmas.Bool.{cases_eq, cond_both}
@@ -29,6 +29,11 @@ digit_top : (m low x : ℕ) → low < 2 ^ m → x ≤ 1 → digit m (low + x * 2
 digit_top m low x small bit =
     let e : (low + x * 2 ^ m) / 2 ^ m ≡ x = ap (λ y. y / 2 ^ m) (add_comm low (x * 2 ^ m)) ∙ div-mul-add x (2 ^ m) low small in
     ap (λ y. y % 2) e ∙ (omega arith)
+
+-- digits that agree are packed alike
+pub packed_same : (f g : ℕ → ℕ) (m : ℕ) → ((k : ℕ) → k < m → f k ≡ g k) → packed f m ≡ packed g m
+packed_same f g zero h = refl
+packed_same f g (suc m) h = ap₂ (λ byte d. byte + d * 2 ^ m) (packed_same f g m (λ k l. h k (omega arith))) (h m (omega arith))
 
 module _ (f : ℕ → ℕ) (bits : (k : ℕ) → f k ≤ 1) where
   -- m digits make a number below 2 ^ m

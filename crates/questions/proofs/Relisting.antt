@@ -1,10 +1,10 @@
 -- Lists of tables: each table that was read can be written, and a list that is written one after the other reads back.
-use Rattle.std.proofs.Common.{◌≡◌, ℕ, ◌+◌, ◌^◌, ◌<◌, ◌≤◌, false, not, List, [], ◌∷◌, ◌++◌, map, length, get_or, take, drop, None, Ok, sym, refl, ap, ◌∙◌, ap₂, subst₂, add-zero, arith, pow_mono}
-use Rattle.std.specs.List.{range_with_len, AllByRecursion}
+use Rattle.std.proofs.Common.{All, ◌≡◌, ℕ, ◌+◌, ◌^◌, ◌<◌, ◌≤◌, false, not, List, [], ◌∷◌, ◌++◌, map, length, get_or, take, drop, None, Ok, sym, refl, ap, ◌∙◌, ap₂, subst₂, add-zero, arith, pow_mono}
+use Rattle.std.specs.List.{range_with_len}
 use Rattle.std.specs.Option.{option_map}
 use Rattle.std.specs.Bool.{then_some}
 use Rattle.std.proofs.lemmas.List.FromFn.{length-map-range_with_len}
-use Rattle.std.proofs.ByRecursion.{All-map, All-get_or}
+use Rattle.std.proofs.lemmas.List.Elements.{All-map, All-get_or, All-head, All-tail}
 use Rattle.std.proofs.lemmas.List.{append_assoc, append-nil, length-append, take_all, map_push, flat_map_more}
 use Rattle.std.proofs.lemmas.Bool.{le-ltb, or_from}
 use Rattle.std.proofs.lemmas.Bool.Decides.{nat_tests}
@@ -19,14 +19,9 @@ use Rattle.questions.specs.Entries.{reading}
 use Rattle.questions.specs.Writing.{form_for, entry_bytes, write_checks, wrong_at, ReadAs}
 use Rattle.questions.specs.Dictionaries.{Table, Lawful, Item, table_of, item_at, any_table, any_entry, Holds, ended, entry, written, EveryTableReadsBack, EveryListReadsBack}
 use Rattle.questions.specs.Rewriting.{rewritten, rewrites}
-use Rattle.questions.proofs.Rows.{row_most}
+use Rattle.questions.proofs.RowSizes.{row_most}
 use Rattle.questions.proofs.Accepting.{lawful_bounds, passed_returns}
-use Rattle.questions.proofs.Walking.{sized_entry}
-
--- what holds of everything holds of each element
-all_of : {X : Type 0} (P : X → Type 0) → ((x : X) → P x) → (xs : List X) → AllByRecursion P xs
-all_of P h [] = tt
-all_of P h (x ∷ xs) = (h x, all_of P h xs)
+use Rattle.questions.proofs.Walking.{lawful_read}
 
 -- a code that is read is at most 2
 code_le : (low high : ℕ) → code_by low high ≤ 2
@@ -37,9 +32,9 @@ pub lawful_item : (file : List ℕ) (at room : ℕ) (e : Entry) → reading file
 lawful_item file at room e read =
     let n = e.variables in
     let codes : ℕ → ℕ = code n e.form (drop at file) in (
-      (sized_entry file at room e read).lawful,
+      lawful_read file at room e read,
       length-map-range_with_len codes 0 (2 ^ n),
-      All-map (λ c. c ≤ 2) codes (range_with_len 0 (2 ^ n)) (all_of (λ i. codes i ≤ 2) (λ i. code_le (lower (drop at file) i) (upper n e.form (drop at file) i)) (range_with_len 0 (2 ^ n))),
+      All-map (λ c. c ≤ 2) codes (range_with_len 0 (2 ^ n)) (λ k d l. code_le (lower (drop at file) _) (upper n e.form (drop at file) _)),
     )
 
 -- an output row of 257 bytes takes any entry: a first byte and two rows
@@ -92,10 +87,10 @@ first_of t ts h before (items, held, same) =
     )
 
 -- a list of tables that is written behind other bytes reads back from there on
-lists_return : (tables : List Table) → AllByRecursion Lawful tables → (before : List ℕ)
+lists_return : (tables : List Table) → All Lawful tables → (before : List ℕ)
     → (items : List Item) × Holds (before ++ written tables) (length before) items None × (map table_of items ≡ tables)
 lists_return [] h before = ([], ended (length before) (omega (arith, ap length (append-nil before))), refl)
-lists_return (t ∷ ts) h before = first_of t ts h.0 before (lists_return ts h.1 (before ++ entry_bytes t.variables t.codes))
+lists_return (t ∷ ts) h before = first_of t ts (All-head Lawful t ts h) before (lists_return ts (All-tail Lawful t ts h) (before ++ entry_bytes t.variables t.codes))
 
 -- from the start of a file
 pub every_list_reads_back : EveryListReadsBack

@@ -1,12 +1,11 @@
 -- What is written is read back: an entry's bytes, followed by any others, are read as the table that they were made from.
-use Rattle.std.proofs.Common.{◌≡◌, ℕ, zero, suc, ◌+◌, ◌*◌, ◌/◌, ◌%◌, ◌^◌, ◌<◌, ◌≤◌, min, false, cond, not, eqb, ltb, leb, List, [], ◌∷◌, ◌++◌, length, get_or, take, drop, None, Ok, sym, refl, ap, ◌∙◌, subst, ap₂, subst₂, inl, inr, one-add, arith}
+use Rattle.std.proofs.Common.{All, ◌≡◌, ℕ, zero, suc, ◌+◌, ◌*◌, ◌/◌, ◌%◌, ◌^◌, ◌<◌, ◌≤◌, min, false, cond, not, eqb, ltb, leb, List, [], ◌∷◌, ◌++◌, length, get_or, take, drop, None, Ok, sym, refl, ap, ◌∙◌, subst, ap₂, subst₂, inl, inr, one-add, arith}
 use native.Mathlib.Nat.{div-eq_of_lt}
 use Rattle.std.specs.Option.{option_map}
 use Rattle.std.specs.Bool.{then_some}
-use Rattle.std.specs.List.{AllByRecursion}
 use Rattle.std.proofs.lemmas.Nat.{pow_below}
 use Rattle.std.proofs.lemmas.List.FromFn.{get_or-map-range_with_len, fill_by_all}
-use Rattle.std.proofs.ByRecursion.{All-append, All-from_get_or, All-get_or}
+use Rattle.std.proofs.lemmas.List.Elements.{All-append, All-from_get_or, All-get_or}
 use Rattle.std.proofs.lemmas.List.{append_assoc, get_or-append-add, get_or_append_left, get_or-take, length-append, length-take-le, drop_at}
 use Rattle.std.proofs.lemmas.Bool.{cases_Bool, ltb-true, le-ltb, lt-ltb, le-leb, ne_eqb, and_left, and_right, and_from, or_from}
 use Rattle.std.proofs.lemmas.Bool.Decides.{nat_tests}
@@ -21,13 +20,13 @@ use Rattle.questions.specs.declared.fault.EntryFault.TheVariants.{NoByte, Variab
 use Rattle.questions.specs.Layouts.{variables_of, form_of, row_length, entry_length, row_digit, lower, upper, code_by, code, table, spare}
 use Rattle.questions.specs.Entries.{entry_checks, spare_at, above_at, reading_from}
 use Rattle.questions.specs.Writing.{digit_of, row_byte, row_bytes, rows_in, first_byte, entry_in, ReadsBackIn}
-use Rattle.questions.proofs.Rows.{place_in_row}
+use Rattle.questions.proofs.RowSizes.{place_in_row}
 use Rattle.questions.proofs.Packing.{digit_le, packed_lt, packed_digit}
 use Rattle.questions.proofs.Pasting.{length-row_bytes}
 use Rattle.questions.proofs.Answering.{entry_by}
 
 -- the first byte says the number of variables and the form
-pub heading_variables : (n : ℕ) (form : Form) → n ≤ 10 → variables_of (first_byte n form) ≡ n
+heading_variables : (n : ℕ) (form : Form) → n ≤ 10 → variables_of (first_byte n form) ≡ n
 heading_variables n TwoRows l = grind (arith, nat_tests)
 heading_variables n OneRow l = grind (arith, nat_tests)
 
@@ -37,7 +36,7 @@ heading_form n TwoRows l = ap (λ b. cond b TwoRows OneRow) (lt-ltb n 16 (omega 
 heading_form n OneRow l = ap (λ b. cond b TwoRows OneRow) (le-ltb (16 + n) 16 (omega arith))
 
 -- a code is what its two digits say
-pub code_digits : (c : ℕ) → c ≤ 2 → code_by (digit_of Lower c) (digit_of Upper c) ≡ c
+code_digits : (c : ℕ) → c ≤ 2 → code_by (digit_of Lower c) (digit_of Upper c) ≡ c
 code_digits zero l = refl
 code_digits (suc zero) l = refl
 code_digits (suc (suc zero)) l = refl
@@ -48,11 +47,11 @@ digits_ordered : (c : ℕ) → digit_of Lower c ≤ digit_of Upper c
 digits_ordered c = grind (arith, nat_tests)
 
 -- where nothing is free, one digit serves as both
-pub same_digits : (c : ℕ) → c ≤ 2 → (c ≡ 2 → ⊥) → digit_of Lower c ≡ digit_of Upper c
+same_digits : (c : ℕ) → c ≤ 2 → (c ≡ 2 → ⊥) → digit_of Lower c ≡ digit_of Upper c
 same_digits c l free = grind (arith, nat_tests)
 
 -- a digit of a row that stands behind other bytes
-pub row_read : (n : ℕ) (side : Side) (codes before after : List ℕ) (start i : ℕ) → start ≡ length before → i < 2 ^ n
+row_read : (n : ℕ) (side : Side) (codes before after : List ℕ) (start i : ℕ) → start ≡ length before → i < 2 ^ n
     → row_digit (before ++ (row_bytes n side codes ++ after)) start i ≡ digit_of side (get_or codes i 0)
 row_read n side codes before after start i e l =
     let digits : ℕ → ℕ = λ k. digit_of side (get_or codes (8 * (i / 8) + k) 0) in
@@ -81,14 +80,14 @@ byte_whole n side codes j =
     ]
 
 -- nor any byte of a whole row
-row_whole : (n : ℕ) (side : Side) (codes : List ℕ) → AllByRecursion (λ b. spare n b ≡ false) (row_bytes n side codes)
+row_whole : (n : ℕ) (side : Side) (codes : List ℕ) → All (λ b. spare n b ≡ false) (row_bytes n side codes)
 row_whole n side codes =
     All-from_get_or (λ b. spare n b ≡ false) (row_bytes n side codes) 0 (λ j l.
     let inside : j < row_length n = subst (λ k. j < k) (length-row_bytes n side codes) l in
     ap (spare n) (get_or-map-range_with_len (row_byte n side codes) 0 (row_length n) j j 0 inside (omega arith)) ∙ byte_whole n side codes j)
 
 -- nor any byte of an entry behind the first
-pub rows_whole : (n : ℕ) (form : Form) (codes : List ℕ) → AllByRecursion (λ b. spare n b ≡ false) (rows_in form n codes)
+rows_whole : (n : ℕ) (form : Form) (codes : List ℕ) → All (λ b. spare n b ≡ false) (rows_in form n codes)
 rows_whole n TwoRows codes = All-append (λ b. spare n b ≡ false) (row_bytes n Lower codes) (row_bytes n Upper codes) (row_whole n Lower codes) (row_whole n Upper codes)
 rows_whole n OneRow codes = row_whole n Lower codes
 
@@ -99,14 +98,14 @@ length-rows_in n TwoRows codes =
 length-rows_in n OneRow codes = omega (arith, length-row_bytes n Lower codes)
 
 -- the two digits that are read for an assignment are those of its code
-pub lower_read : (n : ℕ) (form : Form) (codes after : List ℕ) (i : ℕ) → i < 2 ^ n → lower (entry_in form n codes ++ after) i ≡ digit_of Lower (get_or codes i 0)
+lower_read : (n : ℕ) (form : Form) (codes after : List ℕ) (i : ℕ) → i < 2 ^ n → lower (entry_in form n codes ++ after) i ≡ digit_of Lower (get_or codes i 0)
 lower_read n TwoRows codes after i l =
     ap (λ rows. lower (n ∷ rows) i) (append_assoc (row_bytes n Lower codes) (row_bytes n Upper codes) after)
     ∙ row_read n Lower codes (n ∷ []) (row_bytes n Upper codes ++ after) 1 i refl l
 lower_read n OneRow codes after i l = row_read n Lower codes (first_byte n OneRow ∷ []) after 1 i refl l
 
 -- the upper digit likewise; where one row serves as both, nothing is free
-pub upper_read : (n : ℕ) (form : Form) (codes after : List ℕ) (i : ℕ) → i < 2 ^ n → get_or codes i 0 ≤ 2 → (form ≡ OneRow → get_or codes i 0 ≡ 2 → ⊥)
+upper_read : (n : ℕ) (form : Form) (codes after : List ℕ) (i : ℕ) → i < 2 ^ n → get_or codes i 0 ≤ 2 → (form ≡ OneRow → get_or codes i 0 ≡ 2 → ⊥)
     → upper n form (entry_in form n codes ++ after) i ≡ digit_of Upper (get_or codes i 0)
 upper_read n TwoRows codes after i l small whole =
     let start : 1 + row_length n ≡ length (n ∷ row_bytes n Lower codes) = omega (arith, length-row_bytes n Lower codes) in
@@ -124,7 +123,7 @@ module _ (n : ℕ) (form : Form) (codes : List ℕ) (least : 1 ≤ n) (most : n 
       ap₂ code_by (lower_read n form codes after i l) (upper_read n form codes after i l (small i l) (λ e. whole e i l)) ∙ code_digits (get_or codes i 0) (small i l)
 
   -- so the table is read as it was
-  pub table_returns : (after : List ℕ) → table n form (entry_in form n codes ++ after) ≡ take (2 ^ n) codes
+  table_returns : (after : List ℕ) → table n form (entry_in form n codes ++ after) ≡ take (2 ^ n) codes
   table_returns after =
       sym (fill_by_all (code n form (entry_in form n codes ++ after)) (take (2 ^ n) codes) (2 ^ n) 0 (length-take-le (2 ^ n) codes long)
       (λ i l. get_or-take (2 ^ n) codes i 0 l ∙ sym (code_read after i l)))
@@ -143,7 +142,7 @@ module _ (n : ℕ) (form : Form) (codes : List ℕ) (least : 1 ≤ n) (most : n 
       (digits_ordered (get_or codes i 0)))
 
   -- the reader refuses nothing
-  pub checks_pass : (after : List ℕ) (room : ℕ) → 2 ^ n ≤ room → first (entry_checks n form (entry_in form n codes ++ after) room) ≡ None
+  checks_pass : (after : List ℕ) (room : ℕ) → 2 ^ n ≤ room → first (entry_checks n form (entry_in form n codes ++ after) room) ≡ None
   checks_pass after room fits =
       let bytes = entry_in form n codes ++ after in
       let enough : entry_length n form ≤ length bytes = omega (arith, length-rows_in n form codes, length-append (rows_in form n codes) after) in

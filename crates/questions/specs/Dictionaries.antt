@@ -1,6 +1,6 @@
 -- A dictionary: a file of entries that follow one another, and a list of tables written as such a file.
-use Rattle.std.specs.Prelude.{◌≡◌, ℕ, ◌^◌, ◌<◌, ◌≤◌, true, List, [], ◌∷◌, ◌++◌, map, length, take, drop, Some, None, Ok, Err, Option}
-use Rattle.std.specs.List.{flat_map, AllByRecursion}
+use Rattle.std.specs.Prelude.{All, ◌≡◌, ℕ, ◌^◌, ◌<◌, ◌≤◌, IsTrue, List, [], ◌∷◌, ◌++◌, map, length, take, drop, Some, None, Ok, Err, Option}
+use Rattle.std.specs.List.{flat_map}
 use Rattle.tables.specs.Checks.{first}
 use Rattle.tables.specs.Tables.{lawful_size, counted}
 use Rattle.questions.specs.Layouts.{table}
@@ -20,7 +20,7 @@ pub record Table : Type 0 where
 
 -- a table has 1 to 10 variables, a code for each assignment, and no code above 2
 abbrev pub Lawful : Table → Type 0
-Lawful t = (lawful_size t.variables ≡ true) × (length t.codes ≡ 2 ^ t.variables) × AllByRecursion (λ c. c ≤ 2) t.codes
+Lawful t = IsTrue (lawful_size t.variables) × (length t.codes ≡ 2 ^ t.variables) × All (λ c. c ≤ 2) t.codes
 
 -- an entry as it stands in a file: its byte number, what was read, and its codes
 pub record Item : Type 0 where
@@ -82,7 +82,7 @@ EveryTableReadsBack = (t : Table) → Lawful t → ReadsBack t.variables t.codes
 
 -- a file made by writing any list of tables reads back as that list, in that order
 abbrev pub EveryListReadsBack : Type 0
-EveryListReadsBack = (tables : List Table) → AllByRecursion Lawful tables → ReadsAs (written tables) tables
+EveryListReadsBack = (tables : List Table) → All Lawful tables → ReadsAs (written tables) tables
 
 -- what a listing says of an entry
 abbrev pub listed : Item → Listed

@@ -1,5 +1,5 @@
 -- How an entry is read: the order of the reader's checks, its answer, and what the row then holds.
-use Rattle.std.specs.Prelude.{◌≡◌, ℕ, ◌+◌, ◌^◌, ◌<◌, ◌≤◌, Bool, true, false, not, ◌&&◌, ◌||◌, List, [], ◌∷◌, ◌++◌, length, drop, Some, None, Ok, Err, Option, Result, ◌==◌, nat_le, nat_lt, slice_index}
+use Rattle.std.specs.Prelude.{◌≡◌, ℕ, ◌+◌, ◌^◌, ◌≤◌, Bool, not, ◌&&◌, ◌||◌, List, [], ◌∷◌, ◌++◌, length, drop, Some, None, Ok, Err, Option, Result, ◌==◌, nat_le, nat_lt, slice_index}
 use Rattle.std.specs.Option.{option_map}
 use Rattle.std.specs.Bool.{then_some}
 use Rattle.tables.specs.Checks.{first, lowest, answered}
@@ -18,12 +18,6 @@ spare_at n bytes k = nat_le 1 k && spare n (slice_index bytes k)
 -- the lower row is above the upper row at the assignment i
 abbrev pub above_at : ℕ → Form → List ℕ → ℕ → Bool
 above_at n form bytes i = nat_lt (upper n form bytes i) (lower bytes i)
-
--- the first assignment of a table at which that is so, among those from one number on and below another
-abbrev pub FirstAbove : ℕ → Form → List ℕ → ℕ → ℕ → Option ℕ → Type 0
-FirstAbove n form bytes from to None = (i : ℕ) → from ≤ i → i < to → i < 2 ^ n → above_at n form bytes i ≡ false
-FirstAbove n form bytes from to (Some i) =
-    (from ≤ i) × (i < 2 ^ n) × (above_at n form bytes i ≡ true) × ((k : ℕ) → from ≤ k → k < i → above_at n form bytes k ≡ false)
 
 -- the checks, in their order, over the bytes from the entry's start on and a row of so many codes
 abbrev pub entry_checks : ℕ → Form → List ℕ → ℕ → List (Option EntryFault)

@@ -2,7 +2,7 @@
 -- First byte n, then the lower row, then the upper row; or first byte 16 + n and one row that serves as both.
 -- A row of 2 ^ n digits takes one byte for n below 3, else 2 ^ n / 8 bytes:
 -- assignment i is the digit of weight 2 ^ (i mod 8) in byte i div 8, and digits from 2 ^ n on are 0.
-use Rattle.std.specs.Prelude.{◌≡◌, ℕ, ◌+◌, ◌-◌, ◌/◌, ◌%◌, ◌^◌, ◌<◌, Bool, true, false, cond, not, ◌&&◌, List, map, ◌==◌, nat_lt, slice_index}
+use Rattle.std.specs.Prelude.{◌≡◌, ℕ, ◌+◌, ◌-◌, ◌/◌, ◌%◌, ◌^◌, ◌<◌, Bool, true, false, if◌then◌else◌, not, ◌&&◌, List, map, take, drop, ◌==◌, nat_lt, slice_index}
 use Rattle.std.specs.List.{range_with_len}
 use Rattle.tables.specs.Tables.{digit, Admits}
 use Rattle.questions.specs.declared.form.Form.{Form}
@@ -10,14 +10,14 @@ use Rattle.questions.specs.declared.form.Form.TheVariants.{TwoRows, OneRow}
 
 -- what the first byte says
 abbrev pub variables_of : ℕ → ℕ
-variables_of b = cond (nat_lt b 16) b (b - 16)
+variables_of b = if nat_lt b 16 then b else (b - 16)
 
 abbrev pub form_of : ℕ → Form
-form_of b = cond (nat_lt b 16) TwoRows OneRow
+form_of b = if nat_lt b 16 then TwoRows else OneRow
 
 -- how many bytes a row takes
 abbrev pub row_length : ℕ → ℕ
-row_length n = cond (nat_lt n 3) 1 (2 ^ n / 8)
+row_length n = if nat_lt n 3 then 1 else (2 ^ n / 8)
 
 -- the byte of the entry at which the upper row starts; the lower row starts at byte 1
 abbrev pub upper_start : ℕ → Form → ℕ
@@ -26,6 +26,10 @@ upper_start n OneRow = 1
 
 abbrev pub entry_length : ℕ → Form → ℕ
 entry_length n form = upper_start n form + row_length n
+
+-- the bytes of the row that starts at a byte
+abbrev pub row_from : ℕ → List ℕ → ℕ → List ℕ
+row_from n bytes start = take (row_length n) (drop start bytes)
 
 -- the digit for assignment i in the row that starts at a byte
 abbrev pub row_digit : List ℕ → ℕ → ℕ → ℕ
@@ -39,7 +43,7 @@ upper n form bytes i = row_digit bytes (upper_start n form) i
 
 -- the code of an assignment: 1 where the lower row is 1, 0 where the upper row is 0, 2 elsewhere
 abbrev pub code_by : ℕ → ℕ → ℕ
-code_by low high = cond (low == 1) 1 (cond (high == 0) 0 2)
+code_by low high = if low == 1 then 1 else (if high == 0 then 0 else 2)
 
 abbrev pub code : ℕ → Form → List ℕ → ℕ → ℕ
 code n form bytes i = code_by (lower bytes i) (upper n form bytes i)

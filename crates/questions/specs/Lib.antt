@@ -3,4 +3,5 @@ pub mod Layouts
 pub mod Entries
 pub mod Writing
 pub mod Dictionaries
+pub mod Walks
 pub mod Rewriting

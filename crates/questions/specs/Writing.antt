@@ -1,5 +1,5 @@
 -- How a table is written as an entry: its bytes, and the order of the writer's checks.
-use Rattle.std.specs.Prelude.{◌≡◌, ℕ, zero, suc, ◌+◌, ◌*◌, ◌^◌, ◌≤◌, min, Bool, cond, not, ◌||◌, List, [], ◌∷◌, ◌++◌, map, length, take, drop, is_some, Some, None, Ok, Err, Option, Result, ◌==◌, nat_lt, slice_index}
+use Rattle.std.specs.Prelude.{◌≡◌, ℕ, zero, suc, ◌+◌, ◌*◌, ◌^◌, ◌≤◌, min, Bool, if◌then◌else◌, not, ◌||◌, List, [], ◌∷◌, ◌++◌, map, length, take, drop, is_some, Some, None, Ok, Err, Option, Result, ◌==◌, nat_lt, slice_index}
 use Rattle.std.specs.List.{range_with_len}
 use Rattle.std.specs.Option.{option_map}
 use Rattle.std.specs.Bool.{then_some}
@@ -17,8 +17,8 @@ use Rattle.questions.specs.declared.layout.Layout.{Layout}
 
 -- a code's digit in either row: the lower row is 1 where the code is 1, the upper row is 0 where the code is 0
 abbrev pub digit_of : Side → ℕ → ℕ
-digit_of Lower c = cond (c == 1) 1 0
-digit_of Upper c = cond (c == 0) 0 1
+digit_of Lower c = if c == 1 then 1 else 0
+digit_of Upper c = if c == 0 then 0 else 1
 
 -- the number whose digit of weight 2 ^ k is f k, for k below m
 abbrev pub packed : (ℕ → ℕ) → ℕ → ℕ
@@ -37,7 +37,7 @@ abbrev pub free_at : List ℕ → ℕ → Bool
 free_at codes i = slice_index codes i == 2
 
 abbrev pub form_for : ℕ → List ℕ → Form
-form_for n codes = cond (is_some (lowest (2 ^ n) (free_at codes))) TwoRows OneRow
+form_for n codes = if is_some (lowest (2 ^ n) (free_at codes)) then TwoRows else OneRow
 
 abbrev pub first_byte : ℕ → Form → ℕ
 first_byte n TwoRows = n

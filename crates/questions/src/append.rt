@@ -3,9 +3,8 @@ ghost use Rattle.questions.specs.declared.append.AppendError.TheVariants.{Refuse
 ghost use Rattle.questions.specs.Dictionaries.{Appended, NotAppended};
 
 use super::fault::WriteFault;
-use super::heading::heading;
 use super::reader::Entry;
-use super::writer::write_entry;
+use super::writer::write_table;
 use std::alloc::AllocError;
 
 // Why no entry is appended: the writer refuses the table, or memory is wanting.
@@ -42,12 +41,11 @@ pub fn append_entry(
         (λ e. (dictionary.new.items ≡ dictionary.old.items) × NotAppended variables codes.now e) }
 {
     let mut entry = [0; 257];
-    let size = write_entry(variables, codes, &mut entry)?;
-    let (_, form) = heading(entry[0]);
-    dictionary.extend_from_slice(&entry[0..size])?;
+    let layout = write_table(variables, codes, &mut entry)?;
+    dictionary.extend_from_slice(&entry[..layout.length])?;
     Ok(Entry {
         variables,
-        form,
+        form: layout.form,
         next: dictionary.len(),
     })
 }

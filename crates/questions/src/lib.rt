@@ -9,6 +9,8 @@ mod layout;
 mod listing;
 mod reader;
 mod rewrite;
+mod rows;
+mod walk;
 mod writer;
 
 pub use append::{AppendError, append_entry};

@@ -2,9 +2,10 @@ ghost use Rattle.std.specs.Prelude.{◌≡◌, List, map, IfOk};
 ghost use Rattle.questions.specs.Dictionaries.{Item, Holds, HoldsOneList, listed};
 
 use super::fault::EntryFault;
-use super::reader::{Entry, read_entry};
+use super::reader::Entry;
+use super::walk::Walk;
 use std::alloc::{AllocError, Global};
-use tables::{Counts, count_codes, table_in};
+use tables::{Counts, count_codes};
 
 // An entry in a listing: its byte number, what was read, and how often each code stands in its table.
 #[derive(Clone, Copy, PartialEq, Eq, Debug)]
@@ -29,23 +30,22 @@ pub struct Listing {
 }
 
 // Lists the entries of a dictionary.
+#[tactic(auto, using(crate::proofs::Holding::holds_one_list))]
 pub fn list_dictionary(heap: Global, file: &[u8]) -> Result<Listing, AllocError>
     ensures entries { IfOk result (λ l. (items : List Item) × Holds file.now 0 items l.stop × (l.entries.items ≡ map listed items)) }
     ensures one_list { HoldsOneList }
 {
-    let mut row = [0; 1024];
     let mut entries = Vec::new(heap);
-    let mut at = 0;
-    while at < file.len() {
-        match read_entry(file, at, &mut row) {
-            Ok(entry) => {
-                let counts = count_codes(table_in(&row, entry.variables));
-                entries.push(Listed { at, entry, counts })?;
-                at = entry.next;
-            }
-            Err(fault) => return Ok(Listing {
+    for found in Walk::new(file) {
+        match found {
+            Ok(found) => entries.push(Listed {
+                at: found.at,
+                entry: found.entry,
+                counts: count_codes(found.table()),
+            })?,
+            Err(stop) => return Ok(Listing {
                 entries,
-                stop: Some(Stop { at, fault }),
+                stop: Some(stop),
             }),
         }
     }

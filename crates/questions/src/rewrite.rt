@@ -1,16 +1,15 @@
-ghost use Rattle.std.specs.Prelude.{◌≡◌, ◌++◌, None, MatchResult};
-ghost use Rattle.tables.specs.Checks.{first};
-ghost use Rattle.questions.specs.declared.rewrite.RewriteError.TheVariants.{Memory};
-ghost use Rattle.questions.specs.Writing.{form_for, entry_bytes, write_checks};
-ghost use Rattle.questions.specs.Dictionaries.{any_entry, EveryTableReadsBack, EveryListReadsBack};
+ghost use Rattle.std.specs.Prelude.{◌≡◌, ◌++◌, IfOk, MatchResult};
+ghost use Rattle.questions.specs.declared.rewrite.RewriteError.TheVariants.{Stopped, Memory};
+ghost use Rattle.questions.specs.Writing.{form_for, entry_bytes};
+ghost use Rattle.questions.specs.Dictionaries.{EveryTableReadsBack, EveryListReadsBack};
+ghost use Rattle.questions.specs.Walks.{item_of};
 ghost use Rattle.questions.specs.Rewriting.{RewrittenAs, NotRewritten};
 
-use super::append::{AppendError, append_entry};
 use super::form::Form;
 use super::listing::Stop;
-use super::reader::read_entry;
-use std::alloc::{AllocFailed, Global};
-use tables::table_in;
+use super::walk::{Found, Walk};
+use super::writer::write_table;
+use std::alloc::{AllocError, AllocFailed, Global};
 
 // Where an entry stood and stands after its dictionary was written anew, and in which form.
 #[derive(Clone, Copy, PartialEq, Eq, Debug)]
@@ -35,6 +34,22 @@ pub enum RewriteError {
     Memory,
 }
 
+impl From<Stop> for RewriteError {
+    ghost from_gives = { λ stop r. r ≡ Stopped stop };
+
+    fn from(stop: Stop) -> RewriteError {
+        RewriteError::Stopped(stop)
+    }
+}
+
+impl From<AllocError> for RewriteError {
+    ghost from_gives = { λ _ r. r ≡ Memory };
+
+    fn from(_error: AllocError) -> RewriteError {
+        RewriteError::Memory
+    }
+}
+
 impl<T: Drop> From<AllocFailed<T>> for RewriteError {
     ghost from_gives = { λ _ r. r ≡ Memory };
 
@@ -43,49 +58,36 @@ impl<T: Drop> From<AllocFailed<T>> for RewriteError {
     }
 }
 
-// Appends a table that the writer does not refuse, and answers the form that it got.
-fn append_table(bytes: &mut Vec<u8>, variables: u8, table: &[u8]) -> Result<Form, RewriteError>
-    requires { first (write_checks variables table.now any_entry) ≡ None }
-    ensures { MatchResult result
-        (λ form. (form ≡ form_for variables table.now) × (bytes.new.items ≡ bytes.old.items ++ entry_bytes variables table.now))
-        (λ e. e ≡ Memory) }
+// Appends the table of an entry that was found, and answers the form that it got.
+fn append_table(bytes: &mut Vec<u8>, found: &Found) -> Result<Form, AllocError>
+    ensures { IfOk result (λ form. (form ≡ form_for found.now.entry.variables (item_of found.now).codes)
+        × (bytes.new.items ≡ bytes.old.items ++ entry_bytes found.now.entry.variables (item_of found.now).codes)) }
 {
-    match append_entry(bytes, variables, table) {
-        Ok(entry) => Ok(entry.form),
-        Err(AppendError::Memory) => Err(RewriteError::Memory),
-        Err(AppendError::Refused(_)) => unreachable(),
-    }
+    let mut entry = [0; 257];
+    let layout = write_table(found.entry.variables, found.table(), &mut entry).unwrap();
+    bytes.extend_from_slice(&entry[..layout.length])?;
+    Ok(layout.form)
 }
 
 // Writes the tables of a dictionary anew, one after the other.
+#[tactic(auto, using(crate::proofs::Relisting::every_list_reads_back))]
 pub fn rewrite_dictionary(heap: Global, file: &[u8]) -> Result<Rewriting, RewriteError>
     ensures result { MatchResult result (λ w. RewrittenAs file.now w.bytes.items w.entries.items) (NotRewritten file.now) }
     ensures tables { EveryTableReadsBack }
     ensures lists { EveryListReadsBack }
 {
-    let mut row = [0; 1024];
     let mut bytes = Vec::new(heap);
     let mut entries = Vec::new(heap);
-    let mut at = 0;
-    while at < file.len() {
-        match read_entry(file, at, &mut row) {
-            Ok(entry) => {
-                let to = bytes.len();
-                let after = append_table(
-                    &mut bytes,
-                    entry.variables,
-                    table_in(&row, entry.variables),
-                )?;
-                entries.push(Rewritten {
-                    from: at,
-                    to,
-                    before: entry.form,
-                    after,
-                })?;
-                at = entry.next;
-            }
-            Err(fault) => return Err(RewriteError::Stopped(Stop { at, fault })),
-        }
+    for found in Walk::new(file) {
+        let found = found?;
+        let to = bytes.len();
+        let after = append_table(&mut bytes, &found)?;
+        entries.push(Rewritten {
+            from: found.at,
+            to,
+            before: found.entry.form,
+            after,
+        })?;
     }
     Ok(Rewriting { bytes, entries })
 }

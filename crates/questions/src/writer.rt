@@ -1,117 +1,98 @@
-ghost use Rattle.std.specs.Prelude.{◌≡◌, ◌+◌, ◌*◌, ◌<◌, ◌≤◌, min, ◌++◌, length, take, drop, IfOk, MatchResult, slice_index};
-ghost use Rattle.std.proofs.Math.Seq.{paste};
-ghost use Rattle.tables.specs.Checks.{lowest};
-ghost use Rattle.questions.specs.Layouts.{row_length};
-ghost use Rattle.questions.specs.Writing.{digit_of, packed, row_bytes, free_at, wrong_at, entry_in, writing, out_after, ReadsBack, Writable, Unwritable};
+ghost use Rattle.std.specs.Prelude.{◌≡◌, ◌+◌, ◌-◌, ◌*◌, ◌^◌, ◌<◌, ◌≤◌, min, if◌then◌else◌, ◌++◌, length, take, drop, position, IfOk, MatchResult, EachIndex, ◌==◌, nat_lt, slice_index};
+ghost use Rattle.std.specs.List.{list_any};
+ghost use Rattle.questions.specs.Writing.{digit_of, packed, entry_in, writing, out_after, ReadsBack, Writable, Unwritable};
+ghost use Rattle.questions.specs.declared.form.Form.TheVariants.{TwoRows, OneRow};
 
 use super::fault::WriteFault;
 use super::form::{Form, Side};
-use super::heading::layout_of;
+use super::heading::Heading;
 use super::layout::Layout;
 use tables::points;
 
-// A code's digit in either row.
-fn digit_of(code: u8, side: Side) -> u8
-    ensures { result ≡ digit_of side code }
+// The form of a table: one row serves as both where no code is free.
+fn table_form(table: &[u8]) -> Form
+    ensures { result ≡ (if list_any (λ code. code == 2) table.now then TwoRows else OneRow) }
 {
-    match (side, code) {
-        (Side::Lower, 1) => 1,
-        (Side::Lower, _) => 0,
-        (Side::Upper, 0) => 0,
-        (Side::Upper, _) => 1,
-    }
-}
-
-// The first code that is free, and the first that is above 2.
-#[derive(Clone, Copy)]
-struct Found {
-    free: Option<usize>,
-    wrong: Option<usize>,
-}
-
-// Looks at each code of a table once.
-fn survey(codes: &[u8], points: usize) -> Found
-    requires { points ≤ length codes.now }
-    ensures { (result.free ≡ lowest points (free_at codes.now)) × (result.wrong ≡ lowest points (wrong_at codes.now)) }
-{
-    let mut free = None;
-    let mut wrong = None;
-    for i in 0..points {
-        if codes[i] > 2 {
-            wrong = wrong.or(Some(i));
-        } else if codes[i] == 2 {
-            free = free.or(Some(i));
-        }
-    }
-    Found { free, wrong }
-}
-
-// All checks of a table, for an output row of so many bytes.
-fn check_table(variables: u8, codes: &[u8], room: usize) -> Result<Layout, WriteFault>
-    ensures { MatchResult result (Writable variables codes.now room) (Unwritable variables codes.now room) }
-{
-    let Some(points) = points(variables) else {
-        return Err(WriteFault::Variables);
-    };
-    if codes.len() < points {
-        return Err(WriteFault::TooShort);
-    }
-    let found = survey(codes, points);
-    let form = if found.free.is_some() {
+    if table.contains(&2) {
         Form::TwoRows
     } else {
         Form::OneRow
-    };
-    let Some(layout) = layout_of(variables, form) else {
-        return Err(WriteFault::Variables);
-    };
+    }
+}
+
+// The first code that is above 2.
+fn wrong_code(table: &[u8]) -> Option<usize>
+    ensures { result ≡ position (λ code. nat_lt 2 code) table.now }
+{
+    table.iter().position(|code| *code > 2)
+}
+
+// All checks of a table, for an output row of so many bytes.
+fn check_table(variables: u8, table: &[u8], room: usize) -> Result<Layout, WriteFault>
+    requires { length table.now ≡ 2 ^ variables }
+    ensures { MatchResult result (Writable variables table.now room) (Unwritable variables table.now room) }
+{
+    let layout = Layout::new(variables, table_form(table)).ok_or(WriteFault::Variables)?;
     if room < layout.length {
         return Err(WriteFault::TooShort);
     }
-    if let Some(index) = found.wrong {
-        return Err(WriteFault::Code { index });
+    match wrong_code(table) {
+        Some(index) => Err(WriteFault::Code { index }),
+        None => Ok(layout),
     }
-    Ok(layout)
 }
 
-// Packs up to eight digits of a row, from an assignment on, into a byte.
-fn pack(codes: &[u8], side: Side, from: usize, count: usize) -> u8
-    requires codes { from + count ≤ length codes.now }
-    requires count { count ≤ 8 }
-    ensures { result ≡ packed (λ k. digit_of side (slice_index codes.now (from + k))) count }
+// Packs the digits of up to eight codes into a byte.
+fn pack(codes: &[u8], side: Side) -> u8
+    requires { length codes.now ≤ 8 }
+    ensures { result ≡ packed (λ k. digit_of side (slice_index codes.now k)) (length codes.now) }
 {
     let mut byte = 0;
-    for k in 0..count {
-        byte += digit_of(codes[from + k], side) << k;
+    for (place, code) in codes.iter().enumerate() {
+        byte += side.digit(*code) << place;
     }
     byte
 }
 
-// Writes one row of a table from a byte on.
-fn put_row(out: &mut [u8], start: usize, codes: &[u8], side: Side, layout: Layout)
-    requires out { start + row_length layout.variables ≤ length out.old }
-    requires codes { layout.points ≤ length codes.now }
-    ensures { out.new ≡ paste out.old start (row_bytes layout.variables side codes.now) (row_length layout.variables) }
+// Writes a row of a table: eight digits to a byte, or all of them where the table has fewer.
+fn put_row(row: &mut [u8], table: &[u8], side: Side)
+    requires { EachIndex row.old (λ j. 8 * j + min 8 (length table.now) ≤ length table.now) }
+    ensures { EachIndex row.new (λ j. slice_index row.new j ≡ packed (λ k. digit_of side (slice_index table.now (8 * j + k))) (min 8 (length table.now))) }
 {
-    for j in 0..layout.length - layout.upper {
-        out[start + j] = pack(codes, side, 8 * j, layout.points.min(8));
+    let count = table.len().min(8);
+    for (place, byte) in row.iter_mut().enumerate() {
+        *byte = pack(&table[8 * place..8 * place + count], side);
     }
 }
 
 // Writes the whole entry of a table.
-fn put_entry(out: &mut [u8], codes: &[u8], layout: Layout)
-    requires out { layout.length ≤ length out.old }
-    requires codes { layout.points ≤ length codes.now }
-    ensures { out.new ≡ entry_in layout.form layout.variables codes.now ++ drop layout.length out.old }
+fn put_entry(entry: &mut [u8], table: &[u8], layout: Layout)
+    requires entry { length entry.old ≡ layout.length }
+    requires table { length table.now ≡ layout.points }
+    ensures { entry.new ≡ entry_in layout.form layout.variables table.now }
 {
-    put_row(out, 1, codes, Side::Lower, layout);
+    entry[0] = u8::from(Heading {
+        variables: layout.variables,
+        form: layout.form,
+    });
+    put_row(&mut entry[1..1 + layout.row], table, Side::Lower);
     match layout.form {
-        Form::TwoRows => {
-            put_row(out, layout.upper, codes, Side::Upper, layout);
-            out[0] = layout.variables;
-        }
-        Form::OneRow => out[0] = 16 + layout.variables,
+        Form::TwoRows => put_row(&mut entry[layout.upper..], table, Side::Upper),
+        Form::OneRow => {}
     }
+}
+
+// Writes the entry of a table into the front of an output row, and answers its layout.
+pub fn write_table(variables: u8, codes: &[u8], out: &mut [u8]) -> Result<Layout, WriteFault>
+    ensures { MatchResult result
+        (λ layout. Writable variables codes.now (length out.old) layout × (out.new ≡ entry_in layout.form layout.variables codes.now ++ drop layout.length out.old))
+        (λ fault. Unwritable variables codes.now (length out.old) fault × (out.new ≡ out.old)) }
+{
+    let points = points(variables).ok_or(WriteFault::Variables)?;
+    let table = codes.get(..points).ok_or(WriteFault::TooShort)?;
+    let layout = check_table(variables, table, out.len())?;
+    put_entry(&mut out[..layout.length], table, layout);
+    Ok(layout)
 }
 
 // Writes the entry of a table into the front of an output row, and answers its length.
@@ -120,7 +101,6 @@ pub fn write_entry(variables: u8, codes: &[u8], out: &mut [u8]) -> Result<usize,
     ensures out { out.new ≡ out_after result variables codes.now out.old }
     ensures reads_back { IfOk result (λ size. ReadsBack variables codes.now (take size out.new)) }
 {
-    let layout = check_table(variables, codes, out.len())?;
-    put_entry(out, codes, layout);
+    let layout = write_table(variables, codes, out)?;
     Ok(layout.length)
 }

@@ -4,15 +4,15 @@ use Rattle.questions.specs.Writing.{digit_of, packed}
 use Rattle.questions.proofs.Packing.{digit_le, packed_more, packed_fits}
 use Rattle.questions.proofs.writer.pack.Goals as goal
 
-abbrev digitAt : goal.After-digit_of → ℕ → ℕ
-digitAt c k = digit_of c.args.side (get_or c.args.codes.now (c.args.from + k) 0)
+abbrev digit_at : goal.After-digit → ℕ → ℕ
+digit_at c k = digit_of c.args.side (get_or c.args.codes.now k 0)
 
-pub loop-k-preserved : goal.loop-k-preserved
-loop-k-preserved c =
-    packed_more (digitAt c) (λ k. digit_le c.args.side _) c.loop-k.k c.loop-k.byte c.digit_of.result (omega (arith, c.requires.count)) c.loop-k.invariant c.digit_of.ensures
+pub loop-place-preserved : goal.loop-place-preserved
+loop-place-preserved c =
+    packed_more (digit_at c) (λ k. digit_le c.args.side _) c.loop-place.place c.loop-place.byte c.digit.result (omega (arith, c.requires)) c.loop-place.invariant c.digit.ensures
 
 pub overflow_add-byte : goal.overflow_add-byte
 overflow_add-byte c =
-    let sum = loop-k-preserved c in
-    let fits : packed (digitAt c) (c.loop-k.k + 1) < 256 = packed_fits (digitAt c) (λ k. digit_le c.args.side _) (c.loop-k.k + 1) (omega (arith, c.requires.count)) in
+    let sum = loop-place-preserved c in
+    let fits : packed (digit_at c) (c.loop-place.place + 1) < 256 = packed_fits (digit_at c) (λ k. digit_le c.args.side _) (c.loop-place.place + 1) (omega (arith, c.requires)) in
     omega arith

@@ -1,8 +1,8 @@
 -- The bytes before this one are written.
-use Rattle.std.proofs.Common.{◌≡◌}
-use lib.Seq.{paste}
-use Rattle.questions.specs.Writing.{row_bytes}
+use Rattle.std.proofs.Common.{◌≡◌, ℕ, ◌+◌, ◌*◌, ◌<◌, min, length, get_or}
+use Rattle.questions.specs.Writing.{digit_of, packed}
 use Rattle.questions.proofs.writer.put_row.Given as goal
 
-abbrev pub invariant-loop-j : goal.invariant-loop-j
-invariant-loop-j l = l.out ≡ paste l.initial.out l.start (row_bytes l.layout.variables l.side l.codes) l.j
+abbrev pub invariant-loop-place : goal.invariant-loop-place
+invariant-loop-place l =
+    (j : ℕ) → j < l.place → get_or l.row j 0 ≡ packed (λ k. digit_of l.side (get_or l.table (8 * j + k) 0)) (min 8 (length l.table))

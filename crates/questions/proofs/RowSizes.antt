@@ -4,7 +4,7 @@ use Rattle.std.proofs.lemmas.Nat.{pow-add, pow_below}
 use Rattle.std.proofs.lemmas.Bool.{cond_both, ltb-true, ltb-false}
 use Rattle.questions.specs.declared.form.Form.{Form}
 use Rattle.questions.specs.declared.form.Form.TheVariants.{TwoRows, OneRow}
-use Rattle.questions.specs.Layouts.{row_length, upper_start, entry_length}
+use Rattle.questions.specs.Layouts.{row_length, entry_length}
 
 -- from three variables on, a row fills its bytes
 pub whole_bytes : (n : ℕ) → 3 ≤ n → 2 ^ n ≡ 8 * 2 ^ (n - 3)
@@ -19,14 +19,10 @@ place_in_row n i h =
     (λ e. let small : 2 ^ n < 8 = pow_below n 3 (ltb-true n 3 e) in omega arith)
     (λ e. omega (arith, whole_bytes n (ltb-false n 3 e)))
 
--- and so within the entry, in either row
-pub lower_inside : (n : ℕ) (form : Form) (i : ℕ) → i < 2 ^ n → 1 + i / 8 < entry_length n form
-lower_inside n TwoRows i h = let p : i / 8 < row_length n = place_in_row n i h in omega arith
-lower_inside n OneRow i h = let p : i / 8 < row_length n = place_in_row n i h in omega arith
-
--- the upper row likewise
-pub upper_inside : (n : ℕ) (form : Form) (i : ℕ) → i < 2 ^ n → upper_start n form + i / 8 < entry_length n form
-upper_inside n form i h = let p : i / 8 < row_length n = place_in_row n i h in omega arith
+-- the lower row lies within the entry
+pub lower_inside : (n : ℕ) (form : Form) → 1 + row_length n ≤ entry_length n form
+lower_inside n TwoRows = omega arith
+lower_inside n OneRow = omega arith
 
 -- an entry has a first byte
 pub entry_some : (n : ℕ) (form : Form) → 0 < entry_length n form
