@@ -41,7 +41,8 @@ impl<'a> Cells<'a> {
         ensures group { self.new.ignored ≡ self.old.ignored }
         ensures codes { self.new.codes.now ≡ slice_set self.old.codes.now (clear self.old.ignored index) code }
     {
-        self.codes[clear_group(self.ignored, index)] = code;
+        let cell = clear_group(self.ignored, index);
+        self.codes[cell] = code;
     }
 
     // Gives every assignment the code of its cell.

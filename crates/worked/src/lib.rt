@@ -17,8 +17,4 @@ mod splits;
 pub use splits::worked_splits;
 
 #[cfg(test)]
-mod refusing;
-#[cfg(test)]
-mod split_tests;
-#[cfg(test)]
 mod tests;

@@ -1,9 +1,27 @@
 // Questions about the dictionary, put to the code itself: expected values are worked out by hand from the layout.
-use crate::refusing::is_refused;
 use questions::{Form, read_entry, write_entry};
 use std::process::Abort;
 use std::test::Fail;
-use tables::table_in;
+use tables::{Refusal, table_in};
+
+mod split_tests;
+
+// A call is refused with a number and a spot.
+fn is_refused<A: Drop, R: Refusal + Drop>(
+    rt: &impl Abort,
+    answer: Result<A, R>,
+    number: u8,
+    spot: usize,
+) -> Result<(), Fail> {
+    match answer {
+        Ok(_) => Err(Fail::new("the call is not refused")),
+        Err(refusal) => {
+            assert_eq!(rt; refusal.number(), number);
+            assert_eq!(rt; refusal.spot(), spot);
+            Ok(())
+        }
+    }
+}
 
 // The entry at a byte number is refused with a number and a spot, and the row is left.
 fn refused(

@@ -1,5 +1,5 @@
 // Questions about groups, gates, stacks and splits, put to the code itself: expected values are worked out by hand from the rules.
-use crate::refusing::is_refused;
+use super::is_refused;
 use gatesets::{GateSet, LeftInverted, LentRows, Opposite, PairOf, Request};
 use orset::Or;
 use std::test::Fail;
