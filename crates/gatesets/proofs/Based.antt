@@ -1,20 +1,27 @@
 -- How the split of a base set ended, by what it did with the fronts of the part rows.
-use Rattle.std.proofs.Common.{◌≡◌, ℕ, ◌-◌, ◌*◌, ◌^◌, ◌<◌, Bool, cond, List, ◌++◌, length, take, drop, None, Ok, Err, sym, refl, ap, ◌∙◌, subst, inr, arith, take-append-drop}
+use Rattle.std.proofs.Common.{◌≡◌, ℕ, ◌-◌, ◌*◌, ◌^◌, ◌<◌, Bool, cond, List, ◌++◌, length, take, drop, None, Ok, Err, sym, refl, ap, ◌∙◌, subst, inl, inr, arith, take-append-drop}
 use native.Mathlib.Nat.{sub-zero}
 use Rattle.std.proofs.lemmas.List.{length-take-le}
 use Rattle.std.proofs.lemmas.Bool.{eq-eqb}
 use Rattle.tables.specs.Gates.{no_answers}
 use Rattle.tables.specs.Checks.{answered}
-use Rattle.tables.proofs.Passing.{answered_ok}
+use Rattle.tables.proofs.Passing.{answered_err, answered_ok}
+use Rattle.gatesets.specs.declared.refusal.SplitRefusal.{SplitRefusal}
 use Rattle.gatesets.specs.declared.refusal.SplitRefusal.TheVariants.{NoPair}
 use Rattle.gatesets.specs.declared.request.Request.{Request}
-use Rattle.gatesets.specs.Splits.{Giving, Pair, Parts, Rows, Split, early, table_in}
+use Rattle.gatesets.specs.Splits.{Giving, Pair, Parts, Refused, Rows, Split, early, table_in}
 use Rattle.gatesets.specs.Rules.{only_gate}
 use Rattle.gatesets.proofs.Outcomes.{parted_by, passed_facts}
 
 -- a set with one gate has no other number
 only_gate_lem : (gate : List Bool) (k : ℕ) → k < 1 → only_gate gate k ≡ gate
 only_gate_lem gate k below = ap (λ b. cond b gate no_answers) (eq-eqb k 0 (omega arith))
+
+-- a split that is refused by an early check leaves the part rows
+pub refused_early : (count : ℕ) (gate : List Bool) (ask : Request) (lent : Rows) (refusal : SplitRefusal) → Err refusal ≡ answered (early count ask lent) (2 ^ ask.variables)
+    → Refused count gate ask lent lent.left lent.right refusal
+refused_early count gate ask lent refusal e =
+    record { reason = inl (answered_err (early count ask lent) (2 ^ ask.variables) refusal (sym e)); left_same = refl; right_same = refl }
 
 module _ (gate : List Bool) (gives : Giving) (ask : Request) (lent : Rows) (points : ℕ) (checked : Ok points ≡ answered (early 1 ask lent) (2 ^ ask.variables)) where
   -- no check refuses

@@ -33,7 +33,7 @@ impl GateSet for Or {
         only_gate([false, true, true, true], gate)
     }
 
-    #[tactic(auto, using(crate::proofs::OrEnds::ends_none, crate::proofs::OrEnds::ends_parts))]
+    #[tactic(auto, using(crate::proofs::OrEnds::ends_none))]
     fn split(&self, ask: Request, rows: &mut LentRows<'_>) -> Result<(), SplitRefusal> {
         let points = check_split(COUNT, ask, rows)?;
         let table = &mut rows.table[0..points];

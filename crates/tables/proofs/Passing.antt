@@ -1,5 +1,5 @@
 -- Checks that all pass, and the lowest number that passes a test, as a loop that goes up finds it.
-use Rattle.std.proofs.Common.{◌≡◌, ℕ, zero, suc, ◌+◌, ◌<◌, Bool, true, false, ◌⊎◌, List, [], ◌∷◌, Some, None, Ok, Option, sym, refl, ap, ◌∙◌, ap₂, inl, inr, add-one, arith}
+use Rattle.std.proofs.Common.{◌≡◌, ℕ, zero, suc, ◌+◌, ◌<◌, Bool, true, false, ◌⊎◌, List, [], ◌∷◌, Some, None, Ok, Err, Option, sym, refl, ap, ◌∙◌, ap₂, inl, inr, add-one, arith}
 use Rattle.std.specs.Option.{option_map, option_or}
 use Rattle.std.specs.Bool.{then_some}
 use Rattle.std.specs.List.{AllByRecursion}
@@ -39,6 +39,11 @@ option_map-none f None e = refl
 pub answered_ok : {X F : Type 0} (o : Option F) (x y : X) → answered o x ≡ Ok y → (o ≡ None) × (x ≡ y)
 answered_ok (Some r) x y e = clash (cc)
 answered_ok None x y e = (refl, cc)
+
+-- an answer that is one
+pub answered_err : {X F : Type 0} (o : Option F) (x : X) (r : F) → answered o x ≡ Err r → o ≡ Some r
+answered_err (Some q) x r e = cc
+answered_err None x r e = clash (cc)
 
 -- a check that passes changes nothing
 pub option_or-pass : {F : Type 0} (o : Option F) → option_or o None ≡ o

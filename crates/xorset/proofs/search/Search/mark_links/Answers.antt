@@ -2,15 +2,9 @@
 use Rattle.std.proofs.Common.{◌≡◌, ℕ, ◌+◌, ◌*◌, ◌^◌, ◌<◌, length, sym, subst, arith}
 use Rattle.gatesets.specs.Splits.{code}
 use Rattle.xorset.specs.Search.{IsMarked}
-use Rattle.xorset.proofs.Marking.{mark_none, mark_skip, mark_turn}
+use Rattle.xorset.proofs.Marking.{mark_skip, mark_turn}
 use Rattle.xorset.proofs.search.Search.mark_links.Goals as goal
 use Rattle.xorset.proofs.search.Search.mark_links.Goals.{then-code-lt2, else-code-lt2}
-
-pub loop-i-init : goal.loop-i-init
-loop-i-init c =
-    let frame = c.args.frame in
-    mark_none frame.variables (code c.args.table.now) frame.left frame.right c.fill.new.self (length c.args.values.now)
-    (c.fill.ensures.after (λ _ e. e))
 
 pub loop-i-preserved : goal.loop-i-preserved
 loop-i-preserved c =
@@ -25,9 +19,3 @@ loop-i-preserved c =
       | else-code-lt2 w ↦ subst (IsMarked frame c.args.table.now (i + 1)) (sym w.values-is)
           (mark_skip frame.variables (code c.args.table.now) frame.left frame.right c.loop-i.values i c.loop-i.invariant w.if-code-lt2.false)
     ]
-
-pub returns : goal.returns
-returns c =
-    let frame = c.args.frame in
-    let all : c.loop-i.i ≡ 2 ^ frame.variables = omega (arith, c.requires.table) in
-    subst (λ m. IsMarked frame c.args.table.now m c.loop-i.values) all c.loop-i.invariant
