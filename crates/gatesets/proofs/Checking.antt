@@ -8,7 +8,7 @@ use Rattle.std.proofs.lemmas.Bool.{le-leb}
 use Rattle.tables.specs.Checks.{first, lowest}
 use Rattle.tables.specs.Groups.{lawful_groups}
 use Rattle.tables.specs.Tables.{lawful_size, sized}
-use Rattle.tables.proofs.Positions.{position-lowest}
+use Rattle.tables.proofs.Positions.{position_front}
 use Rattle.tables.proofs.Sizes.{sized-some}
 use Rattle.gatesets.specs.declared.refusal.SplitRefusal.TheVariants.{Code, Gate, Groups}
 use Rattle.gatesets.specs.declared.request.Request.{Request}
@@ -40,5 +40,5 @@ module _ (count : ℕ) (ask : Request) (lent : Rows) (points : ℕ) (known : Som
       let same = size.1 in
       let front : points - 0 ≡ 2 ^ ask.variables = sub-zero points ∙ same in
       let lowest_is : lowest (2 ^ ask.variables) (λ i. ltb 2 (code lent.table i)) ≡ wrong =
-      sym (found ∙ ap (λ k. position (λ c. ltb 2 c) (take k lent.table)) front ∙ position-lowest (λ c. ltb 2 c) lent.table (2 ^ ask.variables) (omega arith)) in
+      sym (found ∙ ap (λ k. position (λ c. ltb 2 c) (take k lent.table)) front ∙ position_front (λ c. ltb 2 c) lent.table 0 (2 ^ ask.variables) (omega arith)) in
       rw (size.0, room, lowest_is, number, groups) refl

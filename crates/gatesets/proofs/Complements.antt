@@ -1,8 +1,7 @@
 -- Complements of codes, rows and functions: what they keep.
-use Rattle.std.proofs.Common.{◌≡◌, ℕ, zero, suc, ◌+◌, ◌^◌, ◌<◌, ◌≤◌, min, Bool, not, ltb, List, [], ◌∷◌, ◌++◌, map, length, take, drop, set, sym, refl, ap, ◌∙◌, subst, ap₂, inl, inr, arith}
+use Rattle.std.proofs.Common.{◌≡◌, ℕ, zero, suc, ◌+◌, ◌^◌, ◌<◌, ◌≤◌, Bool, not, ltb, List, [], ◌∷◌, ◌++◌, map, length, take, drop, set, sym, refl, ap, ◌∙◌, subst, ap₂, arith}
 use Rattle.std.proofs.lemmas.List.Edits.{map_over_more}
-use Rattle.std.proofs.lemmas.List.{append-nil, drop_all, drop_at, get_or_default, get_or-map, length-map, take_all, take_at}
-use Rattle.std.proofs.lemmas.Bool.{cases_lt}
+use Rattle.std.proofs.lemmas.List.{drop_at, get_or_default, get_or-map, length-map, take_at}
 use Rattle.tables.specs.Gates.{complement}
 use Rattle.tables.specs.Groups.{Ignores}
 use Rattle.tables.specs.Tables.{Allows}
@@ -94,18 +93,6 @@ pub complement_more : (row now : List ℕ) (i y : ℕ) → i < length row → no
     → y ≡ complement (code now i) → set now i y ≡ complemented_to (i + 1) row
 complement_more row now i y h e long value =
     ap (set now i) value ∙ map_over_more complement row now i (code now i) h e (get_or_default now i 0 (code now i) (omega arith))
-
--- and all
-pub complement_all : (row : List ℕ) (m : ℕ) → length row ≤ m → complemented_to m row ≡ map complement row
-complement_all row m h = ap₂ (λ front rest. map complement front ++ rest) (take_all m row h) (drop_all m row h) ∙ append-nil (map complement row)
-
--- no more than all are complemented
-pub complement_most : (row : List ℕ) (k m : ℕ) → k ≡ min m (length row) → complemented_to k row ≡ complemented_to m row
-complement_most row k m e =
-    elim (cases_lt m (length row)) [
-      | inl l ↦ let same : k ≡ m = omega arith in ap (λ j. complemented_to j row) same
-      | inr l ↦ complement_all row k (omega arith) ∙ sym (complement_all row m l)
-    ]
 
 -- a part that is laid at the front of a row is complemented there
 pub complement-laid : (part row : List ℕ) (m : ℕ) → length part ≡ m → complemented_to m (laid part row) ≡ laid (map complement part) row

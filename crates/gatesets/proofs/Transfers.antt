@@ -1,9 +1,10 @@
 -- What a set derived from a set below takes over: the early checks, and refusals.
-use Rattle.std.proofs.Common.{◌≡◌, ℕ, zero, suc, ◌*◌, ◌^◌, Bool, not, ◌&&◌, ltb, leb, List, [], ◌∷◌, length, Some, None, Option, unwrap_or, sym, refl, ap, ◌∙◌, ap₂, inl, inr}
-use Rattle.std.specs.Option.{option_map, option_or}
+use Rattle.std.proofs.Common.{◌≡◌, ℕ, ◌*◌, ◌^◌, Bool, not, ◌&&◌, ltb, leb, List, [], ◌∷◌, length, Some, None, Option, unwrap_or, sym, ap, ◌∙◌, ap₂, inl, inr}
+use Rattle.std.specs.Option.{option_map}
 use Rattle.std.specs.Bool.{then_some}
 use Rattle.std.proofs.lemmas.Bool.{cond-true}
 use Rattle.tables.specs.Checks.{first, lowest}
+use Rattle.tables.proofs.Passing.{lowest_same}
 use Rattle.tables.specs.Groups.{lawful_groups}
 use Rattle.tables.specs.Tables.{lawful_size, sized}
 use Rattle.gatesets.specs.declared.refusal.SplitRefusal.{SplitRefusal}
@@ -31,18 +32,13 @@ pub early_numbered : (count count' k : ℕ) (ask : Request) (lent : Rows) → le
 early_numbered count count' k ask lent e =
     ap (checked ask (roomy ask.variables lent) (lowest (2 ^ ask.variables) (λ i. ltb 2 (code lent.table i)))) e
 
--- the lowest number that passes one of two tests that are the same
-lowest_same : (m : ℕ) (p q : ℕ → Bool) → ((i : ℕ) → p i ≡ q i) → lowest m p ≡ lowest m q
-lowest_same zero p q e = refl
-lowest_same (suc m) p q e = ap₂ (λ o b. option_or o (then_some b m)) (lowest_same m p q e) (e m)
-
 -- they say the same where the first codes of the table's row are complemented
 pub early_complemented : (count : ℕ) (ask : Request) (k : ℕ) (t a b v w : List ℕ) → early count ask (rows (complemented_to k t) a b v w) ≡ early count ask (rows t a b v w)
 early_complemented count ask k t a b v w =
     let m = 2 ^ ask.variables in
     let others = leb m (length a) && (leb m (length b) && (leb (2 * m) (length v) && leb (2 * m) (length w))) in
     ap₂ (λ long wrong. checked ask (leb m long && others) wrong (leb count ask.gate)) (length_complemented k t)
-    (lowest_same m (λ i. ltb 2 (code (complemented_to k t) i)) (λ i. ltb 2 (code t i)) (wrong_same k t))
+    (lowest_same (λ i. ltb 2 (code (complemented_to k t) i)) (λ i. ltb 2 (code t i)) m (λ i _. wrong_same k t i))
 
 -- where the checks pass, the number of assignments is known
 pub points_known : (count : ℕ) (ask : Request) (lent : Rows) → early count ask lent ≡ None → unwrap_or (sized ask.variables) 0 ≡ 2 ^ ask.variables

@@ -1,12 +1,11 @@
 -- From the checks of an entry's bytes to the reader's answer.
-use Rattle.std.proofs.Common.{◌≡◌, ℕ, ◌+◌, List, get_or, Ok, Err, sym, ap, ◌∙◌, ap₂}
+use Rattle.std.proofs.Common.{◌≡◌, ℕ, ◌+◌, List, get_or, Ok, sym, ap, ◌∙◌, ap₂}
 use Rattle.tables.specs.Checks.{answered}
-use Rattle.questions.specs.declared.fault.EntryFault.{EntryFault}
 use Rattle.questions.specs.declared.form.Form.{Form}
 use Rattle.questions.specs.declared.layout.Layout.{Layout}
 use Rattle.questions.specs.declared.reader.Entry.{Entry}
 use Rattle.questions.specs.Layouts.{variables_of, form_of, entry_length}
-use Rattle.questions.specs.Entries.{reading_from, Accepted, Refused}
+use Rattle.questions.specs.Entries.{reading_from, Accepted}
 
 -- an entry by its three parts
 abbrev pub entry_by : ℕ → Form → ℕ → Entry
@@ -18,11 +17,6 @@ entry_of bytes at =
     let n : ℕ = variables_of (get_or bytes 0 0) in
     let form : Form = form_of (get_or bytes 0 0) in
     entry_by n form (at + entry_length n form)
-
--- a refusal is answered as it is
-pub answer_refused : (bytes whole : List ℕ) (at room : ℕ) (fault : EntryFault) → bytes ≡ whole → Refused bytes room fault → Err fault ≡ reading_from whole at room
-answer_refused bytes whole at room fault e h =
-    sym (ap (λ r. answered r (entry_of bytes at)) h) ∙ ap (λ bs. reading_from bs at room) e
 
 -- else the answer is what the layout says
 pub answer_accepted : (bytes whole : List ℕ) (at room : ℕ) (layout : Layout) → bytes ≡ whole → Accepted bytes room layout

@@ -1,7 +1,7 @@
 -- A table is the front of a row of codes: what is written of it, and what is checked, is the same.
-use Rattle.std.proofs.Common.{◌≡◌, ℕ, zero, suc, ◌+◌, ◌*◌, ◌^◌, ◌<◌, ◌≤◌, min, cond, Bool, ltb, eqb, not, ◌||◌, List, [], ◌∷◌, ◌++◌, length, get_or, take, is_some, position, sym, refl, ap, ◌∙◌, ap₂, arith}
+use Rattle.std.proofs.Common.{◌≡◌, ℕ, ◌+◌, ◌*◌, ◌^◌, ◌<◌, ◌≤◌, min, cond, ltb, eqb, not, ◌||◌, List, [], ◌∷◌, ◌++◌, length, get_or, take, is_some, position, sym, ap, ◌∙◌, ap₂, arith}
 use Rattle.std.specs.List.{list_any}
-use Rattle.std.specs.Option.{option_map, option_or}
+use Rattle.std.specs.Option.{option_map}
 use Rattle.std.specs.Bool.{then_some}
 use Rattle.std.proofs.lemmas.List.{get_or-take, length-take-le}
 use Rattle.std.proofs.lemmas.List.FromFn.{get_or-map-range_with_len, fill_by_all}
@@ -19,7 +19,8 @@ use Rattle.questions.specs.Layouts.{row_length, entry_length}
 use Rattle.questions.specs.Writing.{digit_of, row_byte, row_bytes, free_at, wrong_at, form_for, write_checks, entry_in, Writable, Unwritable}
 use Rattle.questions.proofs.Packing.{packed_same}
 use Rattle.questions.proofs.Pasting.{digits_inside, length-row_bytes}
-use Rattle.questions.proofs.Searching.{any_index, position_index}
+use Rattle.tables.proofs.Passing.{lowest_same}
+use Rattle.tables.proofs.Positions.{any_index, position_index}
 
 -- a table has a free code, or the one-row form
 pub form_by_any : (n : ℕ) (table : List ℕ) → length table ≡ 2 ^ n → cond (list_any (λ code. eqb code 2) table) TwoRows OneRow ≡ form_for n table
@@ -29,11 +30,6 @@ form_by_any n table e =
 -- the first wrong code of a table
 pub wrong_by_position : (n : ℕ) (table : List ℕ) → length table ≡ 2 ^ n → position (λ code. ltb 2 code) table ≡ lowest (2 ^ n) (wrong_at table)
 wrong_by_position n table e = position_index (λ code. ltb 2 code) table 0 ∙ ap (λ m. lowest m (wrong_at table)) e
-
--- tests that agree below a number have one lowest
-lowest_same : (p q : ℕ → Bool) (m : ℕ) → ((k : ℕ) → k < m → p k ≡ q k) → lowest m p ≡ lowest m q
-lowest_same p q zero h = refl
-lowest_same p q (suc m) h = ap₂ (λ o b. option_or o (then_some b m)) (lowest_same p q m (λ k l. h k (omega arith))) (h m (omega arith))
 
 module _ (n : ℕ) (codes : List ℕ) where
   -- the table has a free code where the row has one

@@ -8,6 +8,5 @@ pub mod Accepting
 pub mod Walking
 pub mod Relisting
 pub mod Holding
-pub mod Searching
 pub mod Fronts
 pub mod Bytewise

@@ -26,10 +26,6 @@ module _ {A : Type 0} (row : List A) (i j : ℕ) (x y : A) (here : i < length ro
   pub same_read : x ≡ y → slice_get row i ≡ slice_get row j
   same_read e = slice_get_read row (length row) i x refl here ex ∙ ap Some e ∙ sym (slice_get_read row (length row) j y refl there ey)
 
-  -- and back
-  pub read_same : slice_get row i ≡ slice_get row j → x ≡ y
-  read_same e = let s : Some x ≡ Some y = sym (slice_get_read row (length row) i x refl here ex) ∙ e ∙ slice_get_read row (length row) j y refl there ey in cc
-
 -- a row ignores a group exactly when each entry is equal to the one at its cleared assignment
 pub alike_ignores : {A : Type 0} (n g : ℕ) (f : ℕ → A) → ((i : ℕ) → i < 2 ^ n → f i ≡ f (clear g i)) → Ignores n g f
 alike_ignores n g f h = cleared_ignores n g f (λ i j hi hj e. h i hi ∙ ap f e ∙ sym (h j hj))

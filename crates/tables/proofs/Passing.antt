@@ -1,5 +1,5 @@
 -- Checks that all pass, and the lowest number that passes a test, as a loop that goes up finds it.
-use Rattle.std.proofs.Common.{◌≡◌, ℕ, zero, suc, ◌+◌, ◌<◌, Bool, true, false, ◌⊎◌, List, [], ◌∷◌, Some, None, Ok, Err, Option, sym, refl, ap, ◌∙◌, ap₂, inl, inr, add-one, arith}
+use Rattle.std.proofs.Common.{◌≡◌, ℕ, zero, suc, ◌<◌, Bool, true, false, ◌⊎◌, List, [], ◌∷◌, Some, None, Ok, Err, Option, sym, refl, ap, ◌∙◌, ap₂, inl, inr, arith}
 use Rattle.std.specs.Option.{option_map, option_or}
 use Rattle.std.specs.Bool.{then_some}
 use Rattle.std.specs.List.{AllByRecursion}
@@ -45,26 +45,15 @@ pub answered_err : {X F : Type 0} (o : Option F) (x : X) (r : F) → answered o 
 answered_err (Some q) x r e = cc
 answered_err None x r e = clash (cc)
 
--- a check that passes changes nothing
-pub option_or-pass : {F : Type 0} (o : Option F) → option_or o None ≡ o
-option_or-pass (Some r) = refl
-option_or-pass None = refl
+-- tests that agree below a number have one lowest
+pub lowest_same : (p q : ℕ → Bool) (m : ℕ) → ((k : ℕ) → k < m → p k ≡ q k) → lowest m p ≡ lowest m q
+lowest_same p q zero h = refl
+lowest_same p q (suc m) h = ap₂ (λ o b. option_or o (then_some b m)) (lowest_same p q m (λ k l. h k (omega arith))) (h m (omega arith))
 
 module _ (p : ℕ → Bool) where
   -- one number more
   pub lowest-suc : (m : ℕ) (o : Option ℕ) (b : Bool) → lowest m p ≡ o → p m ≡ b → lowest (suc m) p ≡ option_or o (then_some b m)
   lowest-suc m o b e h = ap₂ (λ x y. option_or x (then_some y m)) e h
-
-  -- a turn of a loop that keeps the lowest so far: the number passes, or it does not
-  pub lowest_kept : (m : ℕ) (o : Option ℕ) → o ≡ lowest m p → p m ≡ false → o ≡ lowest (m + 1) p
-  lowest_kept m o e h = rw add-one (sym (lowest-suc m o false (sym e) h ∙ option_or-pass o))
-
-  pub lowest_met : (m : ℕ) (o : Option ℕ) → o ≡ lowest m p → p m ≡ true → option_or o (Some m) ≡ lowest (m + 1) p
-  lowest_met m o e h = rw add-one (sym (lowest-suc m o true (sym e) h))
-
-  -- a turn that does not stop
-  pub lowest_more : (m : ℕ) → lowest m p ≡ None → p m ≡ false → lowest (m + 1) p ≡ None
-  lowest_more m e h = rw add-one (lowest-suc m None false e h)
 
   -- none is found where none passes
   pub lowest-none : (m : ℕ) → ((k : ℕ) → k < m → p k ≡ false) → lowest m p ≡ None

@@ -60,14 +60,6 @@ marked_stands true v e = inl e
 marked_stands false v e = e
 
 module _ (n : ℕ) (t : ℕ → ℕ) (l r : ℕ) where
-  -- at the start every cell is free, also one past the row
-  pub mark_none : (vs : List ℕ) (k : ℕ) → vs ≡ replicate k 2 → Marked n t l r 0 vs
-  mark_none vs k filled =
-      record { left = λ i _. free (left_cell r i); right = λ i _. free (right_cell n l i); cells = λ c h. absurd (h (free c)); none = λ c h. omega (arith, free c) }
-    where
-      free : (c : ℕ) → get_or vs c 2 ≡ 2
-      free c = elim (cases_lt c k) [ inl lt ↦ rw filled (get_or-replicate k c 2 2 lt) | inr le ↦ rw filled (get_or_past (replicate k 2) c 2 (omega (arith, length-replicate {A = ℕ} k 2))) ]
-
   -- an assignment without a link
   pub mark_skip : (vs : List ℕ) (m : ℕ) → Marked n t l r m vs → 2 ≤ t m → Marked n t l r (m + 1) vs
   mark_skip vs m g h =

@@ -1,22 +1,10 @@
 -- The answer follows the checks of the bytes from the byte number on.
-use Rattle.std.proofs.Common.{◌^◌, ◌++◌, length, drop, refl, ap, ◌∙◌}
+use Rattle.std.proofs.Common.{◌^◌, ◌++◌, length, drop, ap, ◌∙◌}
 use Rattle.std.proofs.lemmas.List.{take_rest}
-use Rattle.std.proofs.lemmas.Result.{err_from_is_err_and}
 use Rattle.questions.specs.Layouts.{table}
 use Rattle.questions.proofs.Meaning.{accepted_between}
-use Rattle.questions.proofs.Answering.{answer_refused, answer_accepted}
+use Rattle.questions.proofs.Answering.{answer_accepted}
 use Rattle.questions.proofs.reader.read_entry.Goals as goal
-
-pub returns-in_err-rows : goal.returns-in_err-rows
-returns-in_err-rows c =
-    let p = err_from_is_err_and c.from_residual.result c.from_residual.ensures.1 in
-    let whole = c.in-Some.ensures.lookup.0.2 ∙ take_rest c.args.file.now c.args.at in
-    rw (p.1, p.2)
-    (record {
-      answer = answer_refused _ _ c.args.at (length c.args.row.now) c.in_err-rows.field-0.0 whole c.in_err-rows.ensures;
-      row = refl;
-      between = tt;
-    })
 
 pub returns : goal.returns
 returns c =

@@ -14,7 +14,7 @@ use Rattle.questions.specs.declared.rows.Rows.{Rows}
 use Rattle.questions.specs.Layouts.{row_length, row_from, upper_start}
 use Rattle.questions.specs.Entries.{above_at}
 use Rattle.questions.proofs.RowSizes.{row_most, place_in_row}
-use Rattle.questions.proofs.Searching.{position-None}
+use Rattle.tables.proofs.Positions.{position-None}
 use Rattle.questions.proofs.Bytewise.{lower_within, upper_within, length-row_from, get_or-row_from, Met, none_above_met, missed, first_above}
 use Rattle.questions.proofs.rows.Rows.lower_above_upper.Goals as goal
 

@@ -8,7 +8,7 @@ use Rattle.tables.proofs.Passing.{lowest-none}
 use Rattle.questions.specs.declared.rows.Rows.{Rows}
 use Rattle.questions.specs.Entries.{spare_at}
 use Rattle.questions.proofs.RowSizes.{entry_some}
-use Rattle.questions.proofs.Searching.{position_lowest}
+use Rattle.tables.proofs.Positions.{position_lowest}
 use Rattle.questions.proofs.rows.Rows.spare_digit.Goals as goal
 
 -- the place that is found, behind the first byte
@@ -33,6 +33,3 @@ pub returns-then-self-ge3 : goal.returns-then-self-ge3
 returns-then-self-ge3 c =
     sym (lowest-none (spare_at c.args.self.now.layout.variables c.args.self.now.bytes.now) c.args.self.now.layout.length
     (λ k h. let wide : 3 ≤ c.args.self.now.layout.variables = omega arith in grind (arith, nat_tests)))
-
-pub returns : goal.returns
-returns c = ap (option_map (λ k. 1 + k)) c.in_ok-place.ensures ∙ spare_found c.args.self.now (omega arith)
