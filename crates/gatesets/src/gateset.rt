@@ -29,6 +29,7 @@ pub trait GateSet {
     // Splits the table at the front of its row into two parts that the gate joins. The table comes back as it was; the two work rows are open.
     fn split(&self, ask: Request, rows: &mut LentRows<'_>) -> Result<(), SplitRefusal>
         ensures same_rows { SameRows rows.old rows.new }
+        ensures work_rows { (length rows.new.first.now ≡ length rows.old.first.now) × (length rows.new.second.now ≡ length rows.old.second.now) }
         ensures table_kept { rows.new.table.now ≡ rows.old.table.now }
         ensures outcome { Split (counted self.now) (answering self.now ask.gate) (gives self.now) ask (rows_of rows.old) rows.new.left.now rows.new.right.now result };
 

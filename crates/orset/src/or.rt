@@ -3,7 +3,7 @@ ghost use Rattle.orset.specs.Or.{OrGives, or_gate};
 ghost use Rattle.std.proofs.Common.{rules};
 
 use super::parts::write_parts;
-use gatesets::{GateSet, LentRows, Request, SplitRefusal, check_split, only_gate};
+use gatesets::{GateSet, LentRows, Request, SplitRefusal, only_gate};
 
 // How many gates the set has.
 const COUNT: u8 = 1;
@@ -35,7 +35,8 @@ impl GateSet for Or {
 
     #[tactic(auto, using(crate::proofs::OrEnds::ends_none))]
     fn split(&self, ask: Request, rows: &mut LentRows<'_>) -> Result<(), SplitRefusal> {
-        let points = check_split(COUNT, ask, rows)?;
+        let points = rows.check(COUNT, ask)?;
+        // borrowed as the other rows are, though it is only read
         let table = &mut rows.table[0..points];
         write_parts(
             ask,

@@ -33,7 +33,7 @@ pub(crate) fn write_parts(
 }
 
 // Lays 0 at both cells of each code 0.
-fn lay_zeros(table: &[u8], lefts: &mut Cells, rights: &mut Cells)
+fn lay_zeros(table: &[u8], lefts: &mut Cells<'_>, rights: &mut Cells<'_>)
     requires lefts { AllFree table.now lefts.old }
     requires rights { AllFree table.now rights.old }
     ensures lefts { ZerosLaid table.now lefts.old.ignored lefts.new }
@@ -48,7 +48,7 @@ fn lay_zeros(table: &[u8], lefts: &mut Cells, rights: &mut Cells)
 }
 
 // Lays 1 at the left cell of each code 1 at which the right part must be 0; there is no pair where the left part must be 0 there too.
-fn lay_left_ones(table: &[u8], lefts: &mut Cells, rights: &Cells) -> Result<(), NoPair>
+fn lay_left_ones(table: &[u8], lefts: &mut Cells<'_>, rights: &Cells<'_>) -> Result<(), NoPair>
     requires lefts { ZerosLaid table.now lefts.old.ignored lefts.old }
     requires rights { ZerosLaid table.now rights.now.ignored rights.now }
     ensures pair { IsErr result ↔ IsTrue (lacks_pair table.now rights.now.ignored lefts.old.ignored) }
@@ -66,7 +66,7 @@ fn lay_left_ones(table: &[u8], lefts: &mut Cells, rights: &Cells) -> Result<(), 
 }
 
 // Lays 1 at the right cell of each code 1 at which the left part need not be 1.
-fn lay_right_ones(table: &[u8], lefts: &Cells, rights: &mut Cells)
+fn lay_right_ones(table: &[u8], lefts: &Cells<'_>, rights: &mut Cells<'_>)
     requires lefts { LeftLaid table.now rights.old.ignored lefts.now.ignored lefts.now }
     requires rights { ZerosLaid table.now rights.old.ignored rights.old }
     ensures { RightLaid table.now rights.old.ignored lefts.now.ignored rights.new }

@@ -9,6 +9,7 @@ use super::form::Form;
 pub struct Heading {
     pub variables: u8,
     pub form: Form,
+    // with 16 more it is still a byte
     ghost fits: { variables < 240 },
 }
 

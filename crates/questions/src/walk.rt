@@ -7,7 +7,7 @@ use super::reader::{Entry, read_entry};
 use tables::table_in;
 
 // An entry that a file has at a byte number, and a row that begins with its table.
-#[derive(Clone, Copy)]
+#[derive(Drop)]
 pub struct Found {
     pub at: usize,
     pub entry: Entry,

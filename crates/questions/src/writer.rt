@@ -7,7 +7,7 @@ use super::fault::WriteFault;
 use super::form::{Form, Side};
 use super::heading::Heading;
 use super::layout::Layout;
-use tables::points;
+use tables::{points, wrong_code};
 
 // The form of a table: one row serves as both where no code is free.
 fn table_form(table: &[u8]) -> Form
@@ -20,14 +20,7 @@ fn table_form(table: &[u8]) -> Form
     }
 }
 
-// The first code that is above 2.
-fn wrong_code(table: &[u8]) -> Option<usize>
-    ensures { result ≡ position (λ code. nat_lt 2 code) table.now }
-{
-    table.iter().position(|code| *code > 2)
-}
-
-// All checks of a table, for an output row of so many bytes.
+// The checks of a table of as many codes as its size asks, for an output row of so many bytes.
 fn check_table(variables: u8, table: &[u8], room: usize) -> Result<Layout, WriteFault>
     requires { length table.now ≡ 2 ^ variables }
     ensures { MatchResult result (Writable variables table.now room) (Unwritable variables table.now room) }

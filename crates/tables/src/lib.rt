@@ -9,6 +9,7 @@ mod ignoring;
 mod refusal;
 mod size;
 mod stack;
+mod wrong;
 
 pub use counts::{Counts, count_codes};
 pub use entry::Entry;
@@ -18,3 +19,4 @@ pub use ignoring::{IgnoreRefusal, ignores};
 pub use refusal::Refusal;
 pub use size::{points, table_in};
 pub use stack::{Stack, StackRefusal};
+pub use wrong::wrong_code;

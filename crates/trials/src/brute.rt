@@ -14,9 +14,9 @@ pub struct Reached {
 }
 
 // How many rows there are with one of so many entries at each assignment of so many variables.
-pub fn rows_of(entries: usize, variables: u8) -> usize {
+pub fn count_rows(entries: usize, variables: u8) -> usize {
     let points = points(variables).unwrap_or(0);
-    (0..points).fold(1usize, |rows, _| rows.saturating_mul(entries))
+    entries.saturating_pow(points as u32)
 }
 
 // The value of a gate for two inputs.
@@ -64,7 +64,7 @@ fn values(function: usize) -> [bool; 8] {
 // Marks the functions of so many variables that ignore a group.
 fn ignoring(variables: u8, group: u16) -> [bool; FUNCTIONS] {
     let mut marks = [false; FUNCTIONS];
-    for (function, mark) in marks.iter_mut().enumerate().take(rows_of(2, variables)) {
+    for (function, mark) in marks.iter_mut().enumerate().take(count_rows(2, variables)) {
         *mark = matches!(ignores(&values(function), variables, group), Ok(true));
     }
     marks

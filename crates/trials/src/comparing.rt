@@ -1,5 +1,5 @@
 // Compares the splits of every table of up to three variables with the search.
-use crate::brute::{Reached, join, rows_of, write_digits};
+use crate::brute::{Reached, count_rows, join, write_digits};
 use gatesets::{GateSet, LentRows, Request, SplitRefusal};
 use std::fmt;
 use std::ops::AddAssign;
@@ -164,7 +164,7 @@ fn compare_table<S: GateSet>(set: &S, ask: Request, reached: &Reached, number: u
 fn compare_tables<S: GateSet>(set: &S, ask: Request) -> Compared {
     let reached = Reached::by(set.answers(ask.gate), ask);
     let mut compared = Compared::default();
-    for number in 0..rows_of(3, ask.variables) {
+    for number in 0..count_rows(3, ask.variables) {
         compared += compare_table(set, ask, &reached, number);
     }
     compared

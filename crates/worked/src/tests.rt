@@ -124,10 +124,8 @@ fn codes_and_bytes_past_the_table_stay(rt: HostRuntime) -> Result<(), Fail> {
 // The codes from 0 to the highest in turn.
 fn pattern(highest: u8) -> [u8; 1024] {
     let mut codes = [0; 1024];
-    let mut next = 0;
-    for code in codes.iter_mut() {
+    for (code, next) in codes.iter_mut().zip((0..=highest).cycle()) {
         *code = next;
-        next = if next < highest { next + 1 } else { 0 };
     }
     codes
 }

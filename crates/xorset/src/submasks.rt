@@ -2,7 +2,7 @@ ghost use Rattle.std.specs.Prelude.{◌≡◌, ◌+◌};
 ghost use Rattle.std.specs.Iterator.{at_most};
 ghost use Rattle.xorset.specs.Submasks.{StepsDown};
 
-// The parts of a group, from the group itself down to 0: numbers whose digits are all in it. Those below `bound` are still to come.
+// The subsets of a group, from the group itself down to 0: numbers whose digits are all in it. Those below `bound` are still to come.
 #[derive(Drop)]
 pub(crate) struct Submasks {
     group: usize,
@@ -10,7 +10,7 @@ pub(crate) struct Submasks {
 }
 
 impl Submasks {
-    // All parts of a group of 16 variables at most.
+    // All subsets of a group of 16 variables at most.
     pub(crate) fn of(group: u16) -> Self
         ensures group { result.group ≡ group }
         ensures bound { result.bound ≡ group + 1 }

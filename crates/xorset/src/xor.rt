@@ -5,7 +5,7 @@ ghost use Rattle.std.proofs.Common.{rules};
 
 use super::frame::{Frame, Side};
 use super::search::Search;
-use gatesets::{GateSet, LentRows, NoPair, Request, SplitRefusal, check_split, only_gate};
+use gatesets::{GateSet, LentRows, NoPair, Request, SplitRefusal, only_gate};
 
 // How many gates the set has.
 const COUNT: u8 = 1;
@@ -38,7 +38,8 @@ impl GateSet for Xor {
     // The first work row takes the values of the cells, the second the cells to visit.
     #[tactic(auto, using(crate::proofs::XorEnds::codes_fit, crate::proofs::XorEnds::numbers_fit, crate::proofs::XorEnds::ends_none))]
     fn split(&self, ask: Request, rows: &mut LentRows<'_>) -> Result<(), SplitRefusal> {
-        let points = check_split(COUNT, ask, rows)?;
+        let points = rows.check(COUNT, ask)?;
+        // borrowed as the other rows are, though it is only read
         let table = &mut rows.table[0..points];
         split_table(
             ask,

@@ -1,11 +1,12 @@
 -- A request that is refused early leaves the part rows; where the rule has parts, the part rows begin with them.
-use Rattle.std.proofs.Common.{rules, ◌≡◌, ◌^◌, Ok, []}
+use Rattle.std.proofs.Common.{rules, ◌≡◌, ◌-◌, ◌^◌, take, Ok, []}
 use Rattle.std.proofs.lemmas.Result.{err_from_is_err_and}
 use Rattle.tables.specs.Checks.{answered}
 use Rattle.gatesets.specs.Lent.{rows_of}
+use Rattle.gatesets.specs.Rules.{two_parts}
 use Rattle.gatesets.specs.Splits.{early}
 use Rattle.gatesets.proofs.Based.{codes_long}
-use Rattle.orset.specs.Or.{OrGives, or_gate}
+use Rattle.orset.specs.Or.{OrGives, or_gate, or_rule}
 use Rattle.orset.proofs.OrEnds.{ends_early, ends_parts}
 use Rattle.orset.proofs.or.OrGateSet.split.Goals as goal
 
@@ -25,5 +26,6 @@ pub returns-clause-outcome : goal.returns-clause-outcome
 returns-clause-outcome c =
     let lent = c.args.rows.now in
     let checked : Ok c.in_ok-points.points ≡ answered (early 1 c.args.ask (rows_of lent)) (2 ^ c.args.ask.variables) = search rules in
+    let parts : or_rule c.args.ask (take (c.in_ok-points.points - 0) lent.table.now) ≡ two_parts c.write_parts.new.left c.write_parts.new.right = search rules in
     ends_parts c.args.ask lent.table.now lent.left.now lent.right.now lent.first.now lent.second.now c.in_ok-points.points
-    c.write_parts.new.left c.write_parts.new.right checked c.in_ok-write_parts.ensures
+    c.write_parts.new.left c.write_parts.new.right checked parts
