@@ -55,10 +55,7 @@ pub fn ignores<T: Entry>(row: &[T], variables: u8, group: u16) -> Result<bool, I
 fn cleared_alike<T: Entry>(row: &[T], group: u16) -> bool
     ensures { IsTrue result ↔ ((i : ℕ) → i < length row.now → slice_get row.now i ≡ slice_get row.now (clear group i)) }
 {
-    for (index, entry) in row.iter().enumerate() {
-        if *entry != row[clear_group(group, index)] {
-            return false;
-        }
-    }
-    true
+    row.iter()
+        .enumerate()
+        .all(|(index, entry)| *entry == row[clear_group(group, index)])
 }
