@@ -1,6 +1,6 @@
 // What each command does, and the lines that say what happened.
 use crate::command::{Command, Splitting, USAGE, parse};
-use crate::grid::print_grid;
+use crate::grid::Grid;
 use crate::refused::print_refused;
 use crate::splits::split_entry;
 use questions::{
@@ -102,7 +102,8 @@ fn print_entry(
             counts,
         },
     )?;
-    print_grid(rt, entry.variables, codes)?;
+    let variables = entry.variables;
+    println!(rt; "{}", Grid { variables, codes })?;
     let next = entry.next;
     println!(rt; "{file}: the next entry is at byte {next}")
 }

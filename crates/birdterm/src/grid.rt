@@ -1,6 +1,14 @@
 // A table as a grid: the lowest variables, up to three, go across, and the others down.
-use std::alloc::{AllocError, Global};
-use std::io;
+ghost use Rattle.std.specs.Prelude.{◌≤◌};
+
+use std::fmt;
+
+// A table of so many variables.
+#[derive(Clone, Copy)]
+pub struct Grid<'a> {
+    pub variables: u8,
+    pub codes: &'a [u8],
+}
 
 // The letter of a variable: a for number 0.
 fn letter(variable: u8) -> char {
@@ -16,71 +24,75 @@ fn symbol(code: u8) -> char {
     }
 }
 
-// The letters of some variables, the highest first.
-fn push_letters(text: &mut String, low: u8, high: u8) -> Result<(), AllocError> {
+// Writes the letters of some variables, the highest first.
+fn write_letters<W: fmt::Write>(f: &mut fmt::Formatter<W>, low: u8, high: u8) -> fmt::Result {
     for variable in (low..high).rev() {
-        text.push(letter(variable))?;
+        write!(f, "{}", letter(variable))?;
     }
     Ok(())
 }
 
-fn push_blanks(text: &mut String, count: u8) -> Result<(), AllocError> {
-    for _ in 0..count {
-        text.push(' ')?;
-    }
-    Ok(())
-}
-
-// The values of so many variables in a number, the highest first.
-fn push_values(text: &mut String, number: usize, variables: u8) -> Result<(), AllocError> {
+// Writes the values of so many variables in a number, the highest first.
+fn write_values<W: fmt::Write>(
+    f: &mut fmt::Formatter<W>,
+    number: usize,
+    variables: u8,
+) -> fmt::Result {
     for variable in (0..variables).rev() {
         let value = number.checked_shr(variable as u32).unwrap_or(0) & 1;
-        text.push(if value == 1 { '1' } else { '0' })?;
+        write!(f, "{value}")?;
     }
     Ok(())
 }
 
-// The line above the grid: the letters down, the letters across, and the values of those in each column.
-fn heading(heap: Global, variables: u8, across: u8, columns: usize) -> Result<String, AllocError> {
-    let mut text = String::new(heap);
-    push_letters(&mut text, across, variables)?;
-    text.push_str("  ")?;
-    push_letters(&mut text, 0, across)?;
-    text.push(' ')?;
-    for column in 0..columns {
-        text.push(' ')?;
-        push_values(&mut text, column, across)?;
+impl Grid<'_> {
+    // How many variables go across.
+    fn across(&self) -> u8
+        ensures few { result ≤ 3 }
+        ensures inside { result ≤ self.now.variables }
+    {
+        self.variables.min(3)
     }
-    Ok(text)
+
+    // The line above the grid: the letters down, the letters across, and the values of those in each column.
+    fn write_heading<W: fmt::Write>(&self, f: &mut fmt::Formatter<W>) -> fmt::Result {
+        let across = self.across();
+        write_letters(f, across, self.variables)?;
+        write!(f, "  ")?;
+        write_letters(f, 0, across)?;
+        write!(f, " ")?;
+        for column in 0..1 << across {
+            write!(f, " ")?;
+            write_values(f, column, across)?;
+        }
+        Ok(())
+    }
+
+    // One line of the grid: the values of the variables down, and a code for each column.
+    fn write_line<W: fmt::Write>(
+        &self,
+        f: &mut fmt::Formatter<W>,
+        row: usize,
+        codes: &[u8],
+    ) -> fmt::Result {
+        let across = self.across();
+        let width = across as usize;
+        write_values(f, row, self.variables - across)?;
+        write!(f, "   {:width$}", "")?;
+        for code in codes {
+            write!(f, "{:width$}{}", "", symbol(*code))?;
+        }
+        Ok(())
+    }
 }
 
-// One line of the grid: the values of the variables down, and a code for each column.
-fn line(
-    heap: Global,
-    down: u8,
-    across: u8,
-    row: usize,
-    codes: &[u8],
-) -> Result<String, AllocError> {
-    let mut text = String::new(heap);
-    push_values(&mut text, row, down)?;
-    text.push_str("   ")?;
-    push_blanks(&mut text, across)?;
-    for code in codes {
-        push_blanks(&mut text, across)?;
-        text.push(symbol(*code))?;
+impl fmt::Display for Grid<'_> {
+    fn fmt<W: fmt::Write>(&self, f: &mut fmt::Formatter<W>) -> fmt::Result {
+        self.write_heading(f)?;
+        for (row, codes) in self.codes.chunks(1 << self.across()).enumerate() {
+            writeln!(f)?;
+            self.write_line(f, row, codes)?;
+        }
+        Ok(())
     }
-    Ok(text)
-}
-
-// Prints a table of so many variables.
-pub fn print_grid(rt: &HostRuntime, variables: u8, codes: &[u8]) -> io::Result<()> {
-    let heap = rt.alloc();
-    let across = variables.min(3);
-    let columns = 1 << across;
-    rt.println(heading(heap, variables, across, columns)?)?;
-    for (row, part) in codes.chunks(columns).enumerate() {
-        rt.println(line(heap, variables - across, across, row, part)?)?;
-    }
-    Ok(())
 }

@@ -1,7 +1,7 @@
 // Splits an entry, and prints its parts.
 use crate::command::Splitting;
 use crate::gates::all_gates;
-use crate::grid::print_grid;
+use crate::grid::Grid;
 use crate::refused::print_refused;
 use gatesets::{GateSet, LentRows, Request};
 use std::io;
@@ -9,8 +9,9 @@ use tables::{gate_code, table_in};
 
 // Prints a part of a table of so many variables.
 fn print_part(rt: &HostRuntime, side: &str, variables: u8, row: &[u8]) -> io::Result<()> {
+    let codes = table_in(row, variables);
     println!(rt; "{side} part:")?;
-    print_grid(rt, variables, table_in(row, variables))
+    println!(rt; "{}", Grid { variables, codes })
 }
 
 // Splits the table of an entry.
