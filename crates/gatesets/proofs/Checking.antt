@@ -1,11 +1,11 @@
 -- What the early checks say where the size and the rooms are known.
-use Rattle.std.proofs.Common.{◌≡◌, ℕ, ◌-◌, ◌*◌, ◌^◌, ◌≤◌, min, Bool, true, not, ltb, leb, [], ◌∷◌, length, take, Some, Option, sym, refl, ap, ◌∙◌, arith}
+use Rattle.std.proofs.Common.{◌≡◌, ℕ, ◌-◌, ◌*◌, ◌^◌, ◌<◌, ◌≤◌, min, Bool, true, false, not, ltb, leb, [], ◌∷◌, length, take, Some, None, Ok, Err, Option, sym, refl, ap, ◌∙◌, arith}
 use native.Mathlib.Nat.{sub-zero}
 use Rattle.std.specs.List.{position}
 use Rattle.std.specs.Option.{option_map}
 use Rattle.std.specs.Bool.{then_some}
-use Rattle.std.proofs.lemmas.Bool.{le-leb}
-use Rattle.tables.specs.Checks.{first, lowest}
+use Rattle.std.proofs.lemmas.Bool.{le-leb, lt-leb}
+use Rattle.tables.specs.Checks.{answered, first, lowest}
 use Rattle.tables.specs.Groups.{lawful_groups}
 use Rattle.tables.specs.Tables.{lawful_size, sized}
 use Rattle.tables.proofs.Positions.{position_front}
@@ -17,7 +17,7 @@ use Rattle.gatesets.specs.Splits.{Rows, code, early, roomy}
 module _ (count : ℕ) (ask : Request) (lent : Rows) (points : ℕ) (known : Some points ≡ sized ask.variables)
     (codes : points ≤ min (min (length lent.table) (length lent.left)) (length lent.right)) (numbers : 2 * points ≤ min (length lent.first) (length lent.second)) where
   -- the size is lawful, and known
-  pub size : (lawful_size ask.variables ≡ true) × (points ≡ 2 ^ ask.variables)
+  size : (lawful_size ask.variables ≡ true) × (points ≡ 2 ^ ask.variables)
   size = sized-some ask.variables points known
 
   -- every row is long enough
@@ -33,7 +33,7 @@ module _ (count : ℕ) (ask : Request) (lent : Rows) (points : ℕ) (known : Som
       ) refl
 
   -- so the last three checks are left
-  pub early_late : (wrong : Option ℕ) (numbered lawful : Bool) → wrong ≡ position (λ c. ltb 2 c) (take (points - 0) lent.table)
+  early_late : (wrong : Option ℕ) (numbered lawful : Bool) → wrong ≡ position (λ c. ltb 2 c) (take (points - 0) lent.table)
       → leb count ask.gate ≡ numbered → lawful_groups ask.variables ask.left ask.right ≡ lawful
       → early count ask lent ≡ first (option_map Code wrong ∷ then_some numbered Gate ∷ then_some (not lawful) Groups ∷ [])
   early_late wrong numbered lawful found number groups =
@@ -42,3 +42,21 @@ module _ (count : ℕ) (ask : Request) (lent : Rows) (points : ℕ) (known : Som
       let lowest_is : lowest (2 ^ ask.variables) (λ i. ltb 2 (code lent.table i)) ≡ wrong =
       sym (found ∙ ap (λ k. position (λ c. ltb 2 c) (take k lent.table)) front ∙ position_front (λ c. ltb 2 c) lent.table 0 (2 ^ ask.variables) (omega arith)) in
       rw (size.0, room, lowest_is, number, groups) refl
+
+  -- the answer where a code is wrong
+  pub refused_code : (index : ℕ) → Some index ≡ position (λ c. ltb 2 c) (take (points - 0) lent.table) → Err (Code index) ≡ answered (early count ask lent) (2 ^ ask.variables)
+  refused_code index found = ap (λ o. answered o (2 ^ ask.variables)) (sym (early_late (Some index) _ _ found refl refl))
+
+  module _ (found : None ≡ position (λ c. ltb 2 c) (take (points - 0) lent.table)) where
+    -- else where the gate number is none of the set's
+    pub refused_gate : count ≤ ask.gate → Err Gate ≡ answered (early count ask lent) (2 ^ ask.variables)
+    refused_gate past = ap (λ o. answered o (2 ^ ask.variables)) (sym (early_late None _ _ found (le-leb _ _ past) refl))
+
+    -- else where the groups are not lawful
+    pub refused_groups : ask.gate < count → lawful_groups ask.variables ask.left ask.right ≡ false → Err Groups ≡ answered (early count ask lent) (2 ^ ask.variables)
+    refused_groups below groups = ap (λ o. answered o (2 ^ ask.variables)) (sym (early_late None false false found (lt-leb _ _ below) groups))
+
+    -- else all checks pass
+    pub checks_passed : ask.gate < count → lawful_groups ask.variables ask.left ask.right ≡ true → Ok points ≡ answered (early count ask lent) (2 ^ ask.variables)
+    checks_passed below groups =
+        ap Ok size.1 ∙ ap (λ o. answered o (2 ^ ask.variables)) (sym (early_late None false true found (lt-leb _ _ below) groups))

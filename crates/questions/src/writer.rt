@@ -21,6 +21,7 @@ fn table_form(table: &[u8]) -> Form
 }
 
 // The checks of a table of as many codes as its size asks, for an output row of so many bytes.
+#[tactic(auto, using(crate::proofs::Fronts::form_by_any, crate::proofs::Fronts::wrong_by_position))]
 fn check_table(variables: u8, table: &[u8], room: usize) -> Result<Layout, WriteFault>
     requires { length table.now ≡ 2 ^ variables }
     ensures { MatchResult result (Writable variables table.now room) (Unwritable variables table.now room) }
