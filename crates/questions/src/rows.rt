@@ -102,7 +102,7 @@ impl<'a> Rows<'a> {
     }
 
     // Writes the table into the front of a row.
-    pub fn fill(&self, row: &mut [u8])
+    pub(crate) fn fill(&self, row: &mut [u8])
         requires { self.now.layout.points ≤ length row.old }
         ensures { row.new ≡ table self.now.layout.variables self.now.layout.form self.now.bytes.now ++ drop (2 ^ self.now.layout.variables) row.old }
     {

@@ -1,11 +1,11 @@
--- The parts of a group: numbers whose digits are all in it, from the group itself down to 0.
+-- The subsets of a group: numbers whose digits are all in it, from the group itself down to 0.
 use Rattle.std.proofs.Common.{◌≡◌, ℕ, zero, suc, ◌+◌, ◌-◌, ◌/◌, ◌%◌, ◌^◌, ◌<◌, ◌≤◌, min, ◌⊎◌, refl, ap, ◌∙◌, inl, inr, pow-suc, arith}
 use lib.Arith.{bin_ind}
 use lib.Bits.{bit_and, and_step}
 use Rattle.std.proofs.lemmas.Bool.{cases_eq}
 use Rattle.tables.specs.Groups.{clear}
 
--- a part of a group, one digit off
+-- a subset of a group, one digit off
 half_inside : (s g : ℕ) → bit_and s g ≡ s → bit_and (s / 2) (g / 2) ≡ s / 2
 half_inside s g e = omega (arith, and_step s g)
 
@@ -31,7 +31,7 @@ and_inside s g =
     let inner = ap (λ x. bit_and x (h / 2)) half ∙ ih (h / 2) in
     omega (arith, and_step a h)) s g
 
--- a number without digits of a group and a part of the group have no digit in common
+-- a number without digits of a group and a subset of the group have no digit in common
 pub add_and : (s g b : ℕ) → bit_and b g ≡ 0 → bit_and s g ≡ s → bit_and (b + s) g ≡ s
 add_and s g b =
     bin_ind (λ a. (h c : ℕ) → bit_and c h ≡ 0 → bit_and a h ≡ a → bit_and (c + a) h ≡ a) (λ h c e f. let none : c + 0 ≡ c = omega arith in ap (λ x. bit_and x h) none ∙ e)

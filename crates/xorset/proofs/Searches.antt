@@ -43,7 +43,7 @@ module _ (first now : Search) (kept : Kept first now) (went : WentOn first now) 
   latest_going visited same =
       popped now.frame.variables (code now.table.now) now.frame.left now.frame.right now.values.now (held now.stack) rest cell last visited same going
 
--- the state at a turn of a visit that began with the first search: the parts of the group from `bound` on are done
+-- the state at a turn of a visit that began with the first search: the subsets of the group from `bound` on are done
 abbrev pub Turns : Search → Visit → ℕ → ℕ → Search → Type 0
 Turns first visit value bound now =
     Turning first.frame.variables (code first.table.now) first.frame.left first.frame.right visit first.values.now (held first.stack)
@@ -55,7 +55,7 @@ module _ (first now : Search) (kept : Kept first now) (visit : Visit) (visits : 
   highest : bit_and (parts.bound - 1) visit.group ≡ part
   highest = ap (λ x. bit_and (parts.bound - 1) x) (sym group) ∙ sym given
 
-  -- so it is a part of the group
+  -- so it is a subset of the group
   pub turn_part : bit_and part visit.group ≡ part
   turn_part = ap (λ x. bit_and x visit.group) (sym highest) ∙ and_inside (parts.bound - 1) visit.group ∙ highest
 

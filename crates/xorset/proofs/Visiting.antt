@@ -12,11 +12,11 @@ use Rattle.xorset.proofs.Stepping.{reopen, link_none, link_same, link_pushed, li
 use Rattle.xorset.proofs.Masking.{add_below, add-clear, and_inside, next_part}
 use Rattle.xorset.proofs.Writing.{inside, written_kept, written_fewer, written_waiting}
 
--- the numbers below which parts of a group are still to come: one above the group, or a part of it
+-- the numbers below which subsets of a group are still to come: one above the group, or a subset of it
 abbrev pub IsBound : ℕ → ℕ → Type 0
 IsBound group bound = (bound ≡ group + 1) ⊎ (bit_and bound group ≡ bound)
 
--- the state at a turn: from the values and the stack at the visit's start to those now, where the parts of the group from `bound` on are done
+-- the state at a turn: from the values and the stack at the visit's start to those now, where the subsets of the group from `bound` on are done
 pub record Turning (n : ℕ) (t : ℕ → ℕ) (l r : ℕ) (visit : Visit) (first_vs first_held vs held : List ℕ) (value bound : ℕ) : Type 0 where
   pub going : Going n t l r vs held (Remains n l r held visit.group visit.base bound)
   pub fewer : (c : ℕ) → get_or vs c 2 ≡ 3 → get_or first_vs c 2 ≡ 3
@@ -25,7 +25,7 @@ pub record Turning (n : ℕ) (t : ℕ → ℕ) (l r : ℕ) (visit : Visit) (firs
   pub small : value < 2
 
 module _ (n : ℕ) (t : ℕ → ℕ) (l r : ℕ) (visit : Visit) (visits : Visits n l r visit) where
-  -- the assignment of a part of the group
+  -- the assignment of a subset of the group
   pub assignment_below : (part : ℕ) → bit_and part visit.group ≡ part → visit.base + part < 2 ^ n
   assignment_below part e =
       let low = and_le_r part visit.group in

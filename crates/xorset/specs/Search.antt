@@ -93,7 +93,7 @@ Waits n l r held i = Contains held (left_cell r i) ⊎ Contains held (right_cell
 abbrev pub Touches : ℕ → ℕ → ℕ → List ℕ → ℕ → ℕ → Type 0
 Touches n l r held c i = Waits n l r held i ⊎ ((left_cell r i ≡ c) ⊎ (right_cell n l i ≡ c))
 
--- or its link with the cell visited is not yet followed: the parts of the group are passed from the highest on down to `bound`
+-- or its link with the cell visited is not yet followed: the subsets of the group are passed from the highest on down to `bound`
 abbrev pub Remains : ℕ → ℕ → ℕ → List ℕ → ℕ → ℕ → ℕ → ℕ → Type 0
 Remains n l r held group base bound i = Waits n l r held i ⊎ ((clear group i ≡ base) × (bit_and i group < bound))
 

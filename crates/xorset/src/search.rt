@@ -113,8 +113,8 @@ impl<'a> Search<'a> {
         ensures came { MatchResult result (λ _. WentOn self.old self.new) (λ _. HasNoValues self.old) }
     {
         let value = self.values[visit.cell];
-        for part in Submasks::of(visit.group) {
-            self.follow_link(visit.base + part, value, visit.other)?;
+        for subset in Submasks::of(visit.group) {
+            self.follow_link(visit.base + subset, value, visit.other)?;
         }
         Ok(())
     }

@@ -1,4 +1,4 @@
--- Each turn follows the link of one part of the group.
+-- Each turn follows the link of one subset of the group.
 use Rattle.std.proofs.Common.{refl, ap, ◌∙◌, inl, inr}
 use Rattle.std.proofs.lemmas.Result.{err_from_is_err_and}
 use Rattle.tables.specs.Stacks.{held}
@@ -8,13 +8,13 @@ use Rattle.xorset.proofs.Searches.{kept_on, turn_followed, turn_inside, turn_par
 use Rattle.xorset.proofs.Visiting.{turn_first, turn_last}
 use Rattle.xorset.proofs.search.Search.visit_links.Goals as goal
 
-pub loop-part-init : goal.loop-part-init
-loop-part-init c =
+pub loop-subset-init : goal.loop-subset-init
+loop-subset-init c =
     let first = c.args.self.now in
-    let same = c.into_iter-part-iterator.ensures.into_iter_gives in
-    let bound = ap (λ (x : Submasks). x.bound) same ∙ c.of-part-items.ensures.bound in
+    let same = c.into_iter-subset-iterator.ensures.into_iter_gives in
+    let bound = ap (λ (x : Submasks). x.bound) same ∙ c.of-subset-items.ensures.bound in
     record {
-      group = ap (λ (x : Submasks). x.group) same ∙ c.of-part-items.ensures.group;
+      group = ap (λ (x : Submasks). x.group) same ∙ c.of-subset-items.ensures.group;
       bound = inl bound;
       kept = record { table = refl; frame = refl };
       turn = rw bound
@@ -24,30 +24,30 @@ loop-part-init c =
 
 pub follow_link-requires-clause-i : goal.follow_link-requires-clause-i
 follow_link-requires-clause-i c =
-    turn_inside c.args.self.now c.loop-part.self c.loop-part.invariant.kept c.args.visit c.requires.visits c.loop-part.part-iterator c.loop-part.invariant.group
-    c.in-Some.part c.in-Some.ensures.steps.1
+    turn_inside c.args.self.now c.loop-subset.self c.loop-subset.invariant.kept c.args.visit c.requires.visits c.loop-subset.subset-iterator c.loop-subset.invariant.group
+    c.in-Some.subset c.in-Some.ensures.steps.1
 
-pub loop-part-preserved : goal.loop-part-preserved
-loop-part-preserved c =
+pub loop-subset-preserved : goal.loop-subset-preserved
+loop-subset-preserved c =
     let first = c.args.self.now in
-    let now = c.loop-part.self in
+    let now = c.loop-subset.self in
     let next = c.follow_link.new.self in
     let step = c.in-Some.ensures.steps in
-    let part = turn_part first now c.loop-part.invariant.kept c.args.visit c.requires.visits c.loop-part.part-iterator c.loop-part.invariant.group c.in-Some.part step.1 in
+    let part = turn_part first now c.loop-subset.invariant.kept c.args.visit c.requires.visits c.loop-subset.subset-iterator c.loop-subset.invariant.group c.in-Some.subset step.1 in
     record {
-      group = step.2 ∙ c.loop-part.invariant.group;
+      group = step.2 ∙ c.loop-subset.invariant.group;
       bound = inr (rw step.3 part);
-      kept = kept_on first now next c.loop-part.invariant.kept c.in_ok-follow_link.ensures.kept;
+      kept = kept_on first now next c.loop-subset.invariant.kept c.in_ok-follow_link.ensures.kept;
       turn = rw step.3
-          (turn_followed first now c.loop-part.invariant.kept c.args.visit c.requires.visits c.loop-part.part-iterator c.loop-part.invariant.group c.in-Some.part step.1 _
-          c.loop-part.invariant.bound c.loop-part.invariant.turn next c.in_ok-follow_link.ensures.followed);
+          (turn_followed first now c.loop-subset.invariant.kept c.args.visit c.requires.visits c.loop-subset.subset-iterator c.loop-subset.invariant.group c.in-Some.subset step.1 _
+          c.loop-subset.invariant.bound c.loop-subset.invariant.turn next c.in_ok-follow_link.ensures.followed);
     }
 
 pub returns-in_err-follow_link-clause-came : goal.returns-in_err-follow_link-clause-came
 returns-in_err-follow_link-clause-came c =
     let none =
-    turn_refused c.args.self.now c.loop-part.self c.loop-part.invariant.kept c.args.visit c.requires.visits c.loop-part.part-iterator c.loop-part.invariant.group
-    c.in-Some.part c.in-Some.ensures.steps.1 _ c.loop-part.invariant.bound c.loop-part.invariant.turn c.in_err-follow_link.ensures.followed in
+    turn_refused c.args.self.now c.loop-subset.self c.loop-subset.invariant.kept c.args.visit c.requires.visits c.loop-subset.subset-iterator c.loop-subset.invariant.group
+    c.in-Some.subset c.in-Some.ensures.steps.1 _ c.loop-subset.invariant.bound c.loop-subset.invariant.turn c.in_err-follow_link.ensures.followed in
     let refusal = err_from_is_err_and c.from_residual.result c.from_residual.ensures.1 in
     rw refusal.1 none
 
@@ -55,4 +55,4 @@ pub returns-clause-came : goal.returns-clause-came
 returns-clause-came c =
     let first = c.args.self.now in
     turn_last first.frame.variables (code first.table.now) first.frame.left first.frame.right c.args.visit c.requires.visits first.values.now (held first.stack)
-    c.loop-part.self.values.now (held c.loop-part.self.stack) _ c.loop-part.part-iterator.bound c.in-None.ensures.steps.0 c.loop-part.invariant.turn
+    c.loop-subset.self.values.now (held c.loop-subset.self.stack) _ c.loop-subset.subset-iterator.bound c.in-None.ensures.steps.0 c.loop-subset.invariant.turn
