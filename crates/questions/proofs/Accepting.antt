@@ -8,10 +8,10 @@ use Rattle.tables.proofs.Passing.{clash, all_pass, then_some-none, option_map-no
 use Rattle.questions.specs.declared.fault.WriteFault.TheVariants.{Variables, TooShort, Code}
 use Rattle.questions.specs.declared.form.Form.TheVariants.{TwoRows, OneRow}
 use Rattle.questions.specs.declared.layout.Layout.{Layout}
-use Rattle.questions.specs.Layouts.{entry_length}
+use Rattle.questions.specs.Layouts.{form_of, entry_length}
 use Rattle.questions.specs.Writing.{free_at, wrong_at, form_for, entry_in, rows_in, entry_bytes, write_checks, writing, ReadAs, ReadsBack, Writable}
 use Rattle.questions.specs.Dictionaries.{any_table}
-use Rattle.questions.proofs.Returning.{entry_returns, length-rows_in}
+use Rattle.questions.proofs.Returning.{entry_returns, length-rows_in, heading_form}
 
 -- the one-row form is chosen only where nothing is free
 one_row_none : (o : Option ℕ) → cond (is_some o) TwoRows OneRow ≡ OneRow → o ≡ None
@@ -54,6 +54,16 @@ last_returns n codes room before whole passed e fits =
     let size : length before + length bytes ≡ length whole = sym (length-append before bytes) ∙ ap length (sym e) in
     subst₂ (λ file next. ReadAs file (length before) any_table n (form_for n codes) (take (2 ^ n) codes) next) end size (passed_returns n codes room passed before [] any_table fits)
 
+-- an output row that begins with the entry of a table
+module _ (n : ℕ) (codes rest now : List ℕ) (begins : now ≡ entry_bytes n codes ++ rest) where
+  -- its front is the entry
+  pub front_entry : (size : ℕ) → entry_length n (form_for n codes) ≡ size → take size now ≡ entry_bytes n codes
+  front_entry size e = ap (take size) begins ∙ take_at (entry_bytes n codes) rest size (length-entry_bytes n codes ∙ e)
+
+  -- and its first byte says the form
+  pub front_form : n ≤ 10 → form_of (get_or now 0 0) ≡ form_for n codes
+  front_form l = ap (λ xs. form_of (get_or xs 0 0)) begins ∙ heading_form n (form_for n codes) l
+
 -- a table that is written, with its layout
 module _ (n : ℕ) (codes out : List ℕ) (layout : Layout) (ok : Writable n codes (length out) layout) where
   -- the length that the layout has is that of the entry
@@ -71,7 +81,7 @@ module _ (n : ℕ) (codes out : List ℕ) (layout : Layout) (ok : Writable n cod
   -- its front is the entry
   pub written_front : (now : List ℕ) → now ≡ entry_in layout.form layout.variables codes ++ drop layout.length out → take layout.length now ≡ entry_bytes n codes
   written_front now e =
-      ap (take layout.length) (written_out now e) ∙ take_at (entry_bytes n codes) (drop layout.length out) layout.length (length-entry_bytes n codes ∙ sym size_is)
+      front_entry n codes (drop layout.length out) now (written_out now e) layout.length (sym size_is)
 
   -- what was written is read back
   pub written_returns : (now : List ℕ) → now ≡ entry_in layout.form layout.variables codes ++ drop layout.length out → ReadsBack n codes (take layout.length now)

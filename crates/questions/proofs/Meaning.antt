@@ -1,17 +1,18 @@
 -- What an accepted entry means: its table admits the functions between its rows.
-use Rattle.std.proofs.Common.{◌≡◌, ℕ, ◌^◌, ◌<◌, ◌≤◌, Bool, true, false, List, ◌++◌, length, get_or, None, sym, ap, ◌∙◌, subst, ap₂, arith}
+use Rattle.std.proofs.Common.{◌≡◌, ℕ, ◌^◌, ◌<◌, ◌≤◌, Bool, true, false, List, ◌++◌, length, get_or, drop, None, Ok, sym, ap, ◌∙◌, subst, arith}
 use Rattle.std.proofs.lemmas.List.FromFn.{length-map-range_with_len, get_or-map-range_with_len}
 use Rattle.std.proofs.lemmas.List.{get_or_append_left}
 use Rattle.std.proofs.lemmas.Bool.{ltb-false}
 use Rattle.std.proofs.lemmas.Bool.Decides.{nat_tests}
 use Rattle.tables.specs.Tables.{Allows}
 use Rattle.tables.specs.Checks.{first, lowest}
-use Rattle.tables.proofs.Passing.{all_pass, option_map-none, none_below}
+use Rattle.tables.proofs.Passing.{all_pass, option_map-none, none_below, answered_ok}
 use Rattle.questions.specs.declared.form.Form.{Form}
-use Rattle.questions.specs.declared.layout.Layout.{Layout}
+use Rattle.questions.specs.declared.reader.Entry.{Entry}
 use Rattle.questions.specs.declared.fault.EntryFault.TheVariants.{LowerAboveUpper}
 use Rattle.questions.specs.Layouts.{lower, upper, code_by, code, table, AdmitsBetween}
-use Rattle.questions.specs.Entries.{entry_checks, above_at, Accepted}
+use Rattle.questions.specs.Entries.{entry_checks, above_at, refusal, reading}
+use Rattle.questions.proofs.Answering.{entry_of}
 
 -- the code of two digits, the lower not above the upper, allows the values between them
 code_allows : (low high : ℕ) (v : Bool) → low ≤ high
@@ -54,12 +55,13 @@ table-codes n form bytes rest i l =
     let long : i < length (table n form bytes) = rw (length-map-range_with_len (code n form bytes) 0 (2 ^ n)) l in
     get_or_append_left (table n form bytes) rest 0 i long ∙ get_or-map-range_with_len (code n form bytes) 0 (2 ^ n) i i 0 l (omega arith)
 
--- so the row after an accepted entry admits the functions between the entry's rows
-pub accepted_between : (bytes whole rest row : List ℕ) (room : ℕ) (layout : Layout) → bytes ≡ whole → Accepted bytes room layout
-    → row ≡ table layout.variables layout.form bytes ++ rest → AdmitsBetween layout.variables layout.form whole row
-accepted_between bytes whole rest row room layout e h r =
-    let n = layout.variables in
-    let form = layout.form in
-    let passed : first (entry_checks n form bytes room) ≡ None = ap₂ (λ m f. first (entry_checks m f bytes room)) h.1 h.2 ∙ h.0 in
-    subst (λ bs. AdmitsBetween n form bs row) e
-    (admits_between n form bytes row (none_above n form bytes room passed) (λ i l. ap (λ xs. get_or xs i 0) r ∙ table-codes n form bytes rest i l))
+-- so the row after an entry that was read admits the functions between the entry's rows
+pub read_between : (file : List ℕ) (at room : ℕ) (e : Entry) (rest row : List ℕ) → reading file at room ≡ Ok e
+    → row ≡ table e.variables e.form (drop at file) ++ rest → AdmitsBetween e.variables e.form (drop at file) row
+read_between file at room e rest row read r =
+    let bytes = drop at file in
+    let n = e.variables in
+    let form = e.form in
+    let ok = answered_ok (refusal bytes room) (entry_of bytes at) e read in
+    let passed : first (entry_checks n form bytes room) ≡ None = subst (λ x. first (entry_checks x.variables x.form bytes room) ≡ None) ok.1 ok.0 in
+    admits_between n form bytes row (none_above n form bytes room passed) (λ i l. ap (λ xs. get_or xs i 0) r ∙ table-codes n form bytes rest i l)

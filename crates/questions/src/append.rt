@@ -3,8 +3,9 @@ ghost use Rattle.questions.specs.declared.append.AppendError.TheVariants.{Refuse
 ghost use Rattle.questions.specs.Dictionaries.{Appended, NotAppended};
 
 use super::fault::WriteFault;
+use super::heading::Heading;
 use super::reader::Entry;
-use super::writer::write_table;
+use super::writer::write_entry;
 use std::alloc::AllocError;
 
 // Why no entry is appended: the writer refuses the table, or memory is wanting.
@@ -41,11 +42,12 @@ pub fn append_entry(
         (λ e. (dictionary.new.items ≡ dictionary.old.items) × NotAppended variables codes.now e) }
 {
     let mut entry = [0; 257];
-    let layout = write_table(variables, codes, &mut entry)?;
-    dictionary.extend_from_slice(&entry[..layout.length])?;
+    let size = write_entry(variables, codes, &mut entry)?;
+    let heading = Heading::from(entry[0]);
+    dictionary.extend_from_slice(&entry[..size])?;
     Ok(Entry {
         variables,
-        form: layout.form,
+        form: heading.form,
         next: dictionary.len(),
     })
 }

@@ -4,6 +4,7 @@
 mod append;
 mod fault;
 mod form;
+mod found;
 mod heading;
 mod layout;
 mod listing;

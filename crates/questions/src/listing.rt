@@ -35,13 +35,14 @@ pub fn list_dictionary(heap: Global, file: &[u8]) -> Result<Listing, AllocError>
     ensures entries { IfOk result (λ l. (items : List Item) × Holds file.now 0 items l.stop × (l.entries.items ≡ map listed items)) }
     ensures one_list { HoldsOneList }
 {
+    let mut row = [0; 1024];
     let mut entries = Vec::new(heap);
     for found in Walk::new(file) {
         match found {
             Ok(found) => entries.push(Listed {
                 at: found.at,
                 entry: found.entry,
-                counts: count_codes(found.table()),
+                counts: count_codes(found.table(&mut row)),
             })?,
             Err(stop) => return Ok(Listing {
                 entries,

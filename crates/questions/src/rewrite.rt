@@ -5,10 +5,11 @@ ghost use Rattle.questions.specs.Dictionaries.{EveryTableReadsBack, EveryListRea
 ghost use Rattle.questions.specs.Walks.{item_of};
 ghost use Rattle.questions.specs.Rewriting.{RewrittenAs, NotRewritten};
 
+use super::append::{AppendError, append_entry};
 use super::form::Form;
+use super::found::Found;
 use super::listing::Stop;
-use super::walk::{Found, Walk};
-use super::writer::write_table;
+use super::walk::Walk;
 use std::alloc::{AllocError, AllocFailed, Global};
 
 // Where an entry stood and stands after its dictionary was written anew, and in which form.
@@ -58,15 +59,20 @@ impl<T: Drop> From<AllocFailed<T>> for RewriteError {
     }
 }
 
-// Appends the table of an entry that was found, and answers the form that it got.
-fn append_table(bytes: &mut Vec<u8>, found: &Found) -> Result<Form, AllocError>
+// Appends the table of an entry that was found, and answers the form that it got. The row is for its codes.
+fn append_table(
+    bytes: &mut Vec<u8>,
+    found: &Found<'_>,
+    row: &mut [u8; 1024],
+) -> Result<Form, AllocError>
     ensures { IfOk result (λ form. (form ≡ form_for found.now.entry.variables (item_of found.now).codes)
         × (bytes.new.items ≡ bytes.old.items ++ entry_bytes found.now.entry.variables (item_of found.now).codes)) }
 {
-    let mut entry = [0; 257];
-    let layout = write_table(found.entry.variables, found.table(), &mut entry).unwrap();
-    bytes.extend_from_slice(&entry[..layout.length])?;
-    Ok(layout.form)
+    match append_entry(bytes, found.entry.variables, found.table(row)) {
+        Ok(entry) => Ok(entry.form),
+        Err(AppendError::Memory) => Err(AllocError),
+        Err(AppendError::Refused(_)) => unreachable(),
+    }
 }
 
 // Writes the tables of a dictionary anew, one after the other.
@@ -76,12 +82,13 @@ pub fn rewrite_dictionary(heap: Global, file: &[u8]) -> Result<Rewriting, Rewrit
     ensures tables { EveryTableReadsBack }
     ensures lists { EveryListReadsBack }
 {
+    let mut row = [0; 1024];
     let mut bytes = Vec::new(heap);
     let mut entries = Vec::new(heap);
     for found in Walk::new(file) {
         let found = found?;
         let to = bytes.len();
-        let after = append_table(&mut bytes, &found)?;
+        let after = append_table(&mut bytes, &found, &mut row)?;
         entries.push(Rewritten {
             from: found.at,
             to,

@@ -1,30 +1,8 @@
-ghost use Rattle.std.specs.Prelude.{◌≡◌, ◌-◌, ◌^◌, length, take};
+ghost use Rattle.std.specs.Prelude.{◌≡◌, ◌-◌, length};
 ghost use Rattle.std.specs.Iterator.{at_most};
-ghost use Rattle.questions.specs.Dictionaries.{Lawful};
 
+use super::found::Found;
 use super::listing::Stop;
-use super::reader::{Entry, read_entry};
-use tables::table_in;
-
-// An entry that a file has at a byte number, and a row that begins with its table.
-#[derive(Drop)]
-pub struct Found {
-    pub at: usize,
-    pub entry: Entry,
-    pub row: [u8; 1024],
-    ghost lawful: { Lawful (record { variables = entry.variables; codes = take (2 ^ entry.variables) row }) },
-}
-
-impl Found {
-    ghost use Rattle.questions.specs.Walks.{item_of};
-
-    // The table.
-    pub fn table(&self) -> &[u8]
-        ensures { result.now ≡ (item_of self.now).codes }
-    {
-        table_in(&self.row, self.entry.variables)
-    }
-}
 
 // The entries of a file one after the other, up to its end or to the first that is refused.
 #[derive(Drop)]
@@ -42,8 +20,8 @@ impl<'a> Walk<'a> {
     }
 }
 
-impl Iterator for Walk<'_> {
-    type Item = Result<Found, Stop>;
+impl<'a> Iterator for Walk<'a> {
+    type Item = Result<Found<'a>, Stop>;
 
     ghost use Rattle.questions.specs.Walks.{WalksTo};
 
@@ -51,16 +29,15 @@ impl Iterator for Walk<'_> {
 
     ghost remaining = { λ s. at_most (length s.file.now - s.at) };
 
-    fn next(&mut self) -> Option<Result<Found, Stop>> {
+    fn next(&mut self) -> Option<Result<Found<'a>, Stop>> {
         let at = self.at;
         if at >= self.file.len() {
             return None;
         }
-        let mut row = [0; 1024];
-        match read_entry(self.file, at, &mut row) {
-            Ok(entry) => {
-                self.at = entry.next;
-                Some(Ok(Found { at, entry, row }))
+        match Found::find(self.file, at, 1024) {
+            Ok(found) => {
+                self.at = found.entry.next;
+                Some(Ok(found))
             }
             Err(fault) => {
                 self.at = self.file.len();
