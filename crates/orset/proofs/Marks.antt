@@ -3,7 +3,7 @@ use Rattle.std.proofs.Common.{◌≡◌, ℕ, ◌+◌, ◌<◌, Bool, true, fals
 use Rattle.std.proofs.lemmas.List.{get_or-set_same, get_or-set_other}
 use Rattle.std.proofs.lemmas.Bool.{cases_eq, eq-eqb, ne_eqb}
 use Rattle.tables.specs.Groups.{clear, within}
-use Rattle.tables.proofs.Clearing.{clear_le}
+use Rattle.tables.proofs.Clearing.{clear_again, clear_le}
 use Rattle.orset.specs.declared.cells.Cells.{Cells}
 use Rattle.orset.specs.Cells.{Hold}
 use Rattle.orset.specs.Or.{upper, lower_left}
@@ -47,6 +47,7 @@ module _ (m g : ℕ) (p : ℕ → Bool) (v : ℕ) (had : ℕ → ℕ) where
           codes = λ i inside.
               h.held.codes i inside
               ∙ ap (λ b. cond b v (had i)) (sym (within-suc k i (eqb (clear g i) (clear g k)) false refl fails ∙ and_false (eqb (clear g i) (clear g k)) (within k g p i)));
+          rest = h.held.rest;
         };
       }
     where
@@ -63,6 +64,8 @@ module _ (m g : ℕ) (p : ℕ → Bool) (v : ℕ) (had : ℕ → ℕ) where
           group = kept ∙ h.held.group;
           long = ap length laid ∙ length-set cells.codes.now (clear cells.ignored k) v ∙ h.held.long;
           codes = λ i inside. rw (laid, h.held.group) (here i inside (cases_eq (clear g i) (clear g k)));
+          rest = λ c inside none.
+              rw (laid, h.held.group) (get_or-set_other cells.codes.now (clear g k) c v 0 (λ is. none (ap (clear g) is ∙ clear_again g k ∙ sym is)) ∙ h.held.rest c inside none);
         };
       }
     where

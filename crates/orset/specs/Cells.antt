@@ -1,15 +1,16 @@
 -- What the cells of a part hold after each pass. A cell is an assignment cleared of the group that the part ignores.
-use Rattle.std.specs.Prelude.{◌≡◌, ℕ, ◌<◌, Bool, if◌then◌else◌, List, length, slice_index}
+use Rattle.std.specs.Prelude.{◌≡◌, ℕ, ◌<◌, Bool, if◌then◌else◌, List, length, ◌≢◌, slice_index}
 use Rattle.tables.specs.Groups.{clear}
 use Rattle.gatesets.specs.Splits.{code}
 use Rattle.orset.specs.declared.cells.Cells.{Cells}
 use Rattle.orset.specs.Or.{or_left_code, or_none, or_right_code, upper}
 
--- the cells of a part that ignores the group g, as many as there are assignments m, hold the code f i at the cell of each assignment i
+-- the cells of a part that ignores the group g hold the code f i at the cell of each assignment i; the row has an entry for each of the m assignments, and those that are no cell are free
 pub record Hold (m g : ℕ) (f : ℕ → ℕ) (cells : Cells) : Type 0 where
   pub group : cells.ignored ≡ g
   pub long : length cells.codes.now ≡ m
   pub codes : (i : ℕ) → i < m → slice_index cells.codes.now (clear g i) ≡ f i
+  pub rest : (c : ℕ) → c < m → (clear g c ≢ c) → slice_index cells.codes.now c ≡ 2
 
 -- every cell is free
 abbrev pub AllFree : List ℕ → Cells → Type 0

@@ -45,13 +45,13 @@ impl<'a> Cells<'a> {
         self.codes[cell] = code;
     }
 
-    // Gives every assignment the code of its cell.
-    pub(crate) fn write(&self, part: &mut [u8])
+    // Gives every assignment the code of its cell in a part that ignores this group.
+    pub(crate) fn write(&self, ignored: u16, part: &mut [u8])
         requires { length self.now.codes.now ≡ length part.old }
-        ensures { part.new ≡ map (λ i. slice_index self.now.codes.now (clear self.now.ignored i)) (range_with_len 0 (length part.old)) }
+        ensures { part.new ≡ map (λ i. slice_index self.now.codes.now (clear ignored i)) (range_with_len 0 (length part.old)) }
     {
         for (index, code) in part.iter_mut().enumerate() {
-            *code = self.code(index) as u8;
+            *code = self.codes[clear_group(ignored, index)] as u8;
         }
     }
 }

@@ -27,8 +27,8 @@ pub(crate) fn write_parts(
     lay_zeros(table, &mut lefts, &mut rights);
     lay_left_ones(table, &mut lefts, &rights)?;
     lay_right_ones(table, &lefts, &mut rights);
-    lefts.write(left);
-    rights.write(right);
+    lefts.write(ask.right, left);
+    rights.write(ask.left, right);
     Ok(())
 }
 

@@ -1,8 +1,8 @@
 -- A code 1 where the left part need not be 1 lays its right cell, any other leaves the cells.
-use Rattle.std.proofs.Common.{sym, ◌∙◌, length}
+use Rattle.std.proofs.Common.{sym, ◌∙◌, length, arith}
 use Rattle.gatesets.specs.Splits.{code}
 use Rattle.orset.proofs.Laying.{right_free, right_laid, right_passed}
-use Rattle.orset.proofs.Marks.{code_held}
+use Rattle.orset.proofs.Marks.{code_held, marks_all}
 use Rattle.orset.proofs.parts.lay_right_ones.Goals as goal
 
 pub loop-index-preserved : goal.loop-index-preserved
@@ -27,3 +27,6 @@ loop-index-preserved c =
             | goal.else-code-eq1-via-else-code-eq1 v ↦ right_passed m t l r i c.loop-index.rights v.if-code-eq1.false c.loop-index.invariant
           ])
     ]
+
+pub returns : goal.returns
+returns c = marks_all _ _ _ _ _ c.loop-index.index c.loop-index.rights (omega arith) c.loop-index.invariant

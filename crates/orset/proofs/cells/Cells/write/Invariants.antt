@@ -4,4 +4,4 @@ use Rattle.tables.specs.Groups.{clear}
 use Rattle.orset.proofs.cells.Cells.write.Given as goal
 
 abbrev pub invariant-loop-index : goal.invariant-loop-index
-invariant-loop-index l = (i : ℕ) → i < l.index → slice_index l.part i ≡ slice_index l.self.codes.now (clear l.self.ignored i)
+invariant-loop-index l = (i : ℕ) → i < l.index → slice_index l.part i ≡ slice_index l.self.codes.now (clear l.ignored i)
