@@ -1,6 +1,4 @@
 // A search through all functions of up to three variables. A function is a number: the digit of weight 2 ^ i is its value at assignment i.
-ghost use Rattle.std.specs.Prelude.{◌<◌};
-
 use gatesets::Request;
 use tables::{ignores, points};
 
@@ -30,14 +28,13 @@ pub fn join(gate: [bool; 4], a: bool, b: bool) -> bool {
     }
 }
 
-// Writes the digits of a number to a base into a row, the lowest first.
-pub fn write_digits(row: &mut [u8], number: usize, base: u8)
-    requires { 0 < base }
-{
+// Writes the digits of a number to a base into a row, the lowest first; to the base 0 as to 1.
+pub fn write_digits(row: &mut [u8], number: usize, base: u8) {
+    let base = base.max(1) as usize;
     let mut rest = number;
     for digit in row.iter_mut() {
-        *digit = (rest % base as usize) as u8;
-        rest /= base as usize;
+        *digit = (rest % base) as u8;
+        rest /= base;
     }
 }
 
